@@ -1,0 +1,7 @@
+pub mod PathLemmas
+pub mod OrderLemmas
+pub mod FoundLemmas
+pub mod Joins
+pub mod Scanning
+pub mod LawProofs
+pub mod Texts

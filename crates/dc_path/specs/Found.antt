@@ -1,0 +1,8 @@
+-- A list as a map from paths: the first item that has a path.
+use Rattle.std.specs.Prelude.{List, [], ◌∷◌, cond, Option, Some, None}
+use Rattle.dc_path.specs.Paths.{Names, same_path}
+
+-- the first item with this path
+abbrev pub found : {A : Type 0} → (A → Names) → List A → Names → Option A
+found path_of [] q = None
+found path_of (x ∷ xs) q = cond (same_path (path_of x) q) (Some x) (found path_of xs q)

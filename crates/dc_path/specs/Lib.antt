@@ -1,0 +1,8 @@
+pub mod Lists
+pub mod Names
+pub mod Paths
+pub mod Order
+pub mod Found
+pub mod Unless
+pub mod Reading
+pub mod Laws

@@ -1,0 +1,80 @@
+-- Paths as lists of names (POSIX.1, "Pathname", without `.` and `..`): limits, texts, order, prefixes.
+use Rattle.std.specs.Prelude.{ℕ, Bool, true, false, cond, List, [], ◌∷◌, ◌-◌, map, length, nat_eq, ◌≤◌, IsTrue, Option, Some, None, take, ◌&&◌}
+use Rattle.std.specs.Option.{is_some}
+use Rattle.std.specs.List.{flat_map, list_all}
+use Rattle.std.specs.Cmp.Lexicographic.{pointwise, slice_cmp}
+use Rattle.std.specs.Ordering.{nat_cmp}
+use Rattle.std.specs.declared.cmp.Ordering.{Ordering}
+use Rattle.dc_path.specs.Names.{is_name, same_name}
+
+-- a path is a list of names, of any length; each name is a list of bytes
+abbrev pub Names : Type 0
+Names = List (List ℕ)
+
+-- a `/` and a name for each name
+abbrev pub joined : Names → List ℕ
+joined names = flat_map (λ name. 47 ∷ name) names
+
+-- the text of a path: `/` for the root
+abbrev pub text_of : Names → List ℕ
+text_of [] = 47 ∷ []
+text_of (name ∷ names) = joined (name ∷ names)
+
+-- `.` followed by the text, and `.` alone for the root
+abbrev pub dotted_of : Names → List ℕ
+dotted_of names = 46 ∷ joined names
+
+-- the limits of a `Path`: 256 names, and 4,096 bytes of text
+pub record IsPath (names : Names) : Type 0 where
+  pub named : IsTrue (list_all is_name names)
+  pub few : length names ≤ 256
+  pub short : length (joined names) ≤ 4096
+
+-- the order of paths: name by name by bytes, a prefix first
+abbrev pub path_cmp : Names → Names → Ordering
+path_cmp = slice_cmp (slice_cmp nat_cmp)
+
+-- two paths are the same names
+abbrev pub same_path : Names → Names → Bool
+same_path = pointwise (pointwise nat_eq)
+
+-- what follows the front in the path, where the path begins with it
+abbrev pub cut : Names → Names → Option Names
+cut [] path = Some path
+cut (x ∷ front) [] = None
+cut (x ∷ front) (y ∷ path) = cond (same_name x y) (cut front path) None
+
+-- one answer where there is no rest, and another by the rest
+abbrev pub at_cut : {A : Type 0} → Option Names → A → (Names → A) → A
+at_cut None other here = other
+at_cut (Some rest) other here = here rest
+
+-- the path begins with the front
+abbrev pub is_under : Names → Names → Bool
+is_under front path = is_some (cut front path)
+
+-- the names but the last
+abbrev pub front_of : Names → Names
+front_of path = take (length path - 1) path
+
+-- the path without its last name; none for the root
+abbrev pub parent_of : Names → Option Names
+parent_of [] = None
+parent_of (name ∷ names) = Some (front_of (name ∷ names))
+
+abbrev pub is_root : Names → Bool
+is_root [] = true
+is_root (x ∷ path) = false
+
+-- the one path is a proper prefix of the other
+abbrev pub is_above : Names → Names → Bool
+is_above [] [] = false
+is_above [] (y ∷ path) = true
+is_above (x ∷ front) [] = false
+is_above (x ∷ front) (y ∷ path) = same_name x y && is_above front path
+
+-- the proper prefixes of a path but the root, the shortest first
+abbrev pub above : Names → List Names
+above [] = []
+above (x ∷ []) = []
+above (x ∷ y ∷ rest) = (x ∷ []) ∷ map (λ path. x ∷ path) (above (y ∷ rest))

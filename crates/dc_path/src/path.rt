@@ -1,0 +1,359 @@
+//! Paths.
+#![tactic(auto)]
+
+ghost use Rattle.std.specs.Prelude.{◌≡◌, ℕ, ◌+◌, ◌-◌, ◌<◌, ◌≤◌, [], ◌∷◌, ◌++◌, List, length, take, drop, IfOk, OnOk, OnErr, Ok, Err, Some, None, IsTrue, IsNone, slice_get, string_bytes, if◌then◌else◌, MatchOption};
+ghost use Rattle.std.specs.Option.{option_copied};
+ghost use Rattle.dc_path.specs.Names.{is_name};
+ghost use Rattle.dc_path.specs.Paths.{joined, text_of, dotted_of, IsPath, path_cmp, is_under, cut, parent_of};
+
+use crate::{List, Name, OutOfMemory, Text, test_name};
+use std::alloc::{AllocError, Global};
+use std::cmp::Ordering;
+use std::marker::Model;
+
+/// The most names of a path.
+pub const MAX_NAMES: usize = 256;
+
+/// The most bytes of a path's text.
+pub const MAX_BYTES: usize = 4096;
+
+/// Why a text or a list of names is no path.
+#[derive(Clone, Copy, Debug, PartialEq, Eq)]
+pub enum PathError {
+    Empty,
+    Relative,
+    BadName { place: u32 },
+    TooDeep,
+    TooLong,
+    Memory,
+}
+
+impl From<OutOfMemory> for PathError {
+    ghost use Rattle.std.specs.Prelude.{◌≡◌};
+    ghost use Rattle.dc_path.specs.declared.path.PathError.TheVariants.{Memory};
+
+    ghost from_gives = { λ _ e. e ≡ Memory };
+
+    fn from(_lack: OutOfMemory) -> PathError {
+        PathError::Memory
+    }
+}
+
+impl From<AllocError> for PathError {
+    ghost use Rattle.std.specs.Prelude.{◌≡◌};
+    ghost use Rattle.dc_path.specs.declared.path.PathError.TheVariants.{Memory};
+
+    ghost from_gives = { λ _ e. e ≡ Memory };
+
+    fn from(_lack: AllocError) -> PathError {
+        PathError::Memory
+    }
+}
+
+/// A path, seen as the list of its names.
+#[derive(Drop)]
+pub struct Path {
+    names: List<Name>,
+    bytes: usize,
+}
+
+impl Model for Path {
+    ghost use Rattle.std.specs.Prelude.{◌≡◌, List, ℕ, length};
+    ghost use Rattle.dc_path.specs.Paths.{IsPath, joined};
+
+    ghost Value = { List (List ℕ) };
+
+    ghost view = { λ p. p.names };
+
+    ghost invariant = { λ p. IsPath p.names × (p.bytes ≡ length (joined p.names)) };
+}
+
+impl Path {
+    ghost use Rattle.dc_path.specs.declared.path.PathError.TheVariants.{Memory};
+    ghost use Rattle.dc_path.specs.Unless.{GivesUnless};
+    ghost use Rattle.dc_path.specs.Reading.{within_limits, grafted, path_from, path_of, parts_of};
+
+    /// The root.
+    pub fn root(alloc: Global) -> Path
+        ensures { result ≡ [] }
+    {
+        Path {
+            names: List::new(alloc),
+            bytes: 0,
+        }
+    }
+
+    /// The path that a text reads as.
+    pub fn read(alloc: Global, text: &str) -> Result<Path, PathError>
+        ensures { GivesUnless Memory result (path_from text.now) }
+    {
+        match text.as_bytes() {
+            [] => Err(PathError::Empty),
+            [b'/', ..] => Path::read_parts(alloc, text),
+            _ => Err(PathError::Relative),
+        }
+    }
+
+    // The path of the parts of a text.
+    fn read_parts(alloc: Global, text: &str) -> Result<Path, PathError>
+        ensures { GivesUnless Memory result (path_of (parts_of text.now)) }
+    {
+        let mut names = List::new(alloc);
+        let mut bytes = 0usize;
+        for part in text.split('/') {
+            if part.is_empty() {
+                continue;
+            }
+            if !test_name(part) {
+                return Err(PathError::BadName {
+                    place: names.len() as u32,
+                });
+            }
+            if names.len() == MAX_NAMES {
+                return Err(PathError::TooDeep);
+            }
+            let name = Name::read(alloc, part)?;
+            bytes += part.len() + 1;
+            names.push(name).map_err(|_| PathError::Memory)?;
+        }
+        if bytes > MAX_BYTES {
+            return Err(PathError::TooLong);
+        }
+        Ok(Path { names, bytes })
+    }
+
+    /// The number of names.
+    pub fn len(&self) -> usize
+        ensures count { result ≡ length self.now }
+        ensures path { IsPath self.now }
+    {
+        self.names.len()
+    }
+
+    /// The name at a place.
+    pub fn name(&self, place: usize) -> Option<&Name>
+        ensures { option_copied result ≡ slice_get self.now place }
+    {
+        self.names.get(place)
+    }
+
+    /// The last name.
+    pub fn last(&self) -> Option<&Name>
+        ensures { option_copied result ≡ slice_get self.now (length self.now - 1) }
+    {
+        self.names.as_slice().last()
+    }
+
+    // Adds a copy of a name at the end.
+    fn push(&mut self, alloc: Global, name: &Name) -> Result<(), OutOfMemory>
+        requires few { length self.old < 256 }
+        requires short { length (joined self.old) + (length name.now + 1) ≤ 4096 }
+        ensures ok { OnOk result (self.new ≡ self.old ++ name.now ∷ []) }
+        ensures err { OnErr result (self.new ≡ self.old) }
+    {
+        let copied = name.copy(alloc)?;
+        let more = name.as_str().len() + 1;
+        self.names.push(copied).map_err(|_| OutOfMemory)?;
+        self.bytes += more;
+        Ok(())
+    }
+
+    // Adds copies of names at the end.
+    #[tactic(auto, using(crate::proofs::Joins::joins))]
+    fn push_all(&mut self, alloc: Global, names: &[Name]) -> Result<(), OutOfMemory>
+        requires few { length self.old + length names.now ≤ 256 }
+        requires short { length (joined self.old) + length (joined names.now) ≤ 4096 }
+        ensures { OnOk result (self.new ≡ self.old ++ names.now) }
+    {
+        for name in names {
+            self.push(alloc, name)?;
+        }
+        Ok(())
+    }
+
+    /// An equal path.
+    pub fn copy(&self, alloc: Global) -> Result<Path, OutOfMemory>
+        ensures { IfOk result (λ p. p ≡ self.now) }
+    {
+        let mut path = Path::root(alloc);
+        path.push_all(alloc, self.names.as_slice())?;
+        Ok(path)
+    }
+
+    /// The path without its last name; `None` for the root.
+    #[tactic(auto, using(crate::proofs::Joins::joins))]
+    pub fn parent(&self, alloc: Global) -> Result<Option<Path>, OutOfMemory>
+        ensures { IfOk result (λ p. p ≡ parent_of self.now) }
+    {
+        let count = self.names.len();
+        if count == 0 {
+            return Ok(None);
+        }
+        let mut path = Path::root(alloc);
+        path.push_all(alloc, &self.names.as_slice()[..count - 1])?;
+        Ok(Some(path))
+    }
+
+    /// The path with a name more.
+    #[tactic(auto, using(crate::proofs::Joins::joins))]
+    pub fn child(&self, alloc: Global, name: &Name) -> Result<Path, PathError>
+        ensures { GivesUnless Memory result (within_limits (self.now ++ name.now ∷ [])) }
+    {
+        let more = name.as_str().len() + 1;
+        if self.names.len() == MAX_NAMES {
+            return Err(PathError::TooDeep);
+        }
+        if self.bytes + more > MAX_BYTES {
+            return Err(PathError::TooLong);
+        }
+        let mut path = self.copy(alloc)?;
+        path.push(alloc, name)?;
+        Ok(path)
+    }
+
+    /// The path followed by another.
+    #[tactic(auto, using(crate::proofs::Joins::joins))]
+    pub fn join(&self, alloc: Global, rel: &Path) -> Result<Path, PathError>
+        ensures { GivesUnless Memory result (within_limits (self.now ++ rel.now)) }
+    {
+        if self.names.len() + rel.names.len() > MAX_NAMES {
+            return Err(PathError::TooDeep);
+        }
+        if self.bytes + rel.bytes > MAX_BYTES {
+            return Err(PathError::TooLong);
+        }
+        let mut path = self.copy(alloc)?;
+        path.push_all(alloc, rel.names.as_slice())?;
+        Ok(path)
+    }
+
+    /// Whether the path begins with another.
+    #[tactic(auto, using(crate::proofs::PathLemmas::fronts))]
+    pub fn starts_with(&self, front: &Path) -> bool
+        ensures { result ≡ is_under front.now self.now }
+    {
+        self.names.as_slice().starts_with(front.names.as_slice())
+    }
+
+    /// What follows a front; `None` where it is none.
+    #[tactic(auto, using(crate::proofs::Joins::joins, crate::proofs::PathLemmas::fronts))]
+    pub fn cut(&self, alloc: Global, front: &Path) -> Result<Option<Path>, OutOfMemory>
+        ensures { IfOk result (λ p. p ≡ cut front.now self.now) }
+    {
+        if !self.names.as_slice().starts_with(front.names.as_slice()) {
+            return Ok(None);
+        }
+        let mut rest = Path::root(alloc);
+        rest.push_all(alloc, &self.names.as_slice()[front.names.len()..])?;
+        Ok(Some(rest))
+    }
+
+    /// Another path with what follows a front; `None` where it is none.
+    #[tactic(auto, using(crate::proofs::Joins::joins))]
+    pub fn graft(&self, alloc: Global, front: &Path, to: &Path) -> Result<Option<Path>, PathError>
+        ensures { GivesUnless Memory result (grafted front.now to.now self.now) }
+    {
+        match self.cut(alloc, front)? {
+            None => Ok(None),
+            Some(rest) => Ok(Some(to.join(alloc, &rest)?)),
+        }
+    }
+
+    /// The order of paths: name by name by bytes, a prefix first.
+    pub fn compare(&self, other: &Path) -> Ordering
+        ensures { result ≡ path_cmp self.now other.now }
+    {
+        self.names.as_slice().cmp(other.names.as_slice())
+    }
+
+    // Adds a `/` and a name for each name.
+    fn write_names(&self, text: &mut String) -> Result<(), OutOfMemory>
+        ensures { OnOk result (string_bytes text.new ≡ string_bytes text.old ++ joined self.now) }
+    {
+        for name in self.names.as_slice() {
+            text.push_str("/")?;
+            text.push_str(name.as_str())?;
+        }
+        Ok(())
+    }
+
+    /// The text of the path.
+    pub fn text(&self, alloc: Global) -> Result<Text, OutOfMemory>
+        ensures { IfOk result (λ t. t ≡ text_of self.now) }
+    {
+        if self.names.len() == 0 {
+            return Text::read(alloc, "/");
+        }
+        let mut text = String::new(alloc);
+        self.write_names(&mut text)?;
+        Ok(Text::of(text))
+    }
+
+    /// `.` followed by the text, and `.` alone for the root.
+    pub fn dotted(&self, alloc: Global) -> Result<Text, OutOfMemory>
+        ensures { IfOk result (λ t. t ≡ dotted_of self.now) }
+    {
+        let mut text = String::from_str(alloc, ".")?;
+        self.write_names(&mut text)?;
+        Ok(Text::of(text))
+    }
+}
+
+impl PartialEq for Path {
+    ghost use Rattle.std.specs.Prelude.{nat_eq};
+    ghost use Rattle.std.specs.Cmp.Lexicographic.{pointwise};
+    ghost use Rattle.std.proofs.Common.{rules};
+    ghost use Rattle.std.specs.Cmp.Rules.{comparing};
+
+    ghost eq = { pointwise (pointwise nat_eq) };
+
+    ghost laws = { Prim.search (comparing, rules) };
+
+    fn eq(&self, other: &Path) -> bool {
+        self.names.as_slice() == other.names.as_slice()
+    }
+}
+
+impl Eq for Path {
+    ghost use Rattle.std.proofs.Common.{rules};
+    ghost use Rattle.std.specs.Cmp.Rules.{comparing};
+
+    ghost laws = { Prim.search (comparing, rules) };
+}
+
+impl PartialOrd for Path {
+    ghost use Rattle.std.specs.Ordering.{as_partial_cmp, nat_cmp};
+    ghost use Rattle.std.specs.Cmp.Lexicographic.{slice_cmp, lists_total, lists_ties, texts_ties, nat_list_cmp_total};
+    ghost use Rattle.std.specs.Cmp.{partial_order_from_own_ties, partial_order_from_total};
+    ghost use Rattle.std.proofs.Common.{rules};
+    ghost use Rattle.std.specs.Cmp.Rules.{comparing};
+    ghost use Rattle.dc_path.specs.Paths.{path_cmp};
+
+    ghost partial_cmp = { as_partial_cmp path_cmp };
+
+    ghost laws = { partial_order_from_own_ties (partial_order_from_total (lists_total nat_list_cmp_total)) (lists_ties (slice_cmp nat_cmp) texts_ties) };
+
+    fn partial_cmp(&self, other: &Path) -> Option<Ordering> {
+        Some(self.compare(other))
+    }
+}
+
+impl Ord for Path {
+    ghost use Rattle.std.specs.Ordering.{nat_cmp};
+    ghost use Rattle.std.specs.Cmp.Lexicographic.{slice_cmp, lists_total, lists_ties, texts_ties, nat_list_cmp_total};
+    ghost use Rattle.std.proofs.Common.{rules};
+    ghost use Rattle.std.specs.Cmp.Rules.{comparing};
+    ghost use Rattle.dc_path.specs.Paths.{path_cmp};
+
+    ghost cmp = { path_cmp };
+
+    ghost total = { lists_total nat_list_cmp_total };
+
+    ghost matches_partial_cmp = { Prim.search (comparing, rules) };
+
+    ghost matches_eq = { lists_ties (slice_cmp nat_cmp) texts_ties };
+
+    fn cmp(&self, other: &Path) -> Ordering {
+        self.compare(other)
+    }
+}
