@@ -1,0 +1,4 @@
+pub mod Attributes
+pub mod Limits
+pub mod Trees
+pub mod Refusals

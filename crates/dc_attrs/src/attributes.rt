@@ -1,0 +1,217 @@
+//! Attributes, with their limits.
+#![tactic(auto)]
+
+ghost use Rattle.std.specs.Prelude.{◌≡◌, ◌≤◌, List as Items, length, IfOk, Ok, Err, not, take, map};
+ghost use Rattle.dc_attrs.specs.Limits.{bad_field, checked, is_xattr, rises, are_xattrs, name_of};
+ghost use Rattle.dc_attrs.specs.Attributes.{Attributes, default_file, default_dir, fits_file, fits_dir};
+
+use dc_path::{List, OutOfMemory, Text};
+use std::alloc::Global;
+use std::marker::Model;
+
+/// An extended attribute: a name and a value (HDFS, "Extended Attributes").
+#[derive(Drop)]
+pub struct Xattr {
+    /// The name, 1 to 255 bytes where it stands in an `Attrs`.
+    pub name: Text,
+    /// The value, at most 4,096 bytes where it stands in an `Attrs`.
+    pub value: Text,
+}
+
+/// A field of `Attrs` that has a limit.
+#[derive(Clone, Copy, Debug, PartialEq, Eq)]
+pub enum Field {
+    Replication,
+    BlockSize,
+    User,
+    Group,
+    Mode,
+    Acl,
+    Xattrs,
+}
+
+/// Why values are no attributes.
+#[derive(Clone, Copy, Debug, PartialEq, Eq)]
+pub enum AttrsError {
+    /// The first field that passes its limit.
+    Bad { field: Field },
+}
+
+/// The attributes of a file or a directory, as HDFS keeps them (HDFS, `FileStatus`).
+///
+/// The type keeps the limits: replication at most 32,767, block size at most 1,099,511,627,776 bytes, user and group at
+/// most 255 bytes, mode at most octal 1777, ACL at most 4,096 bytes, and at most 32 extended attributes in strictly
+/// ascending order of names.
+#[derive(Drop)]
+pub struct Attrs {
+    replication: u16,
+    block_size: u64,
+    user: Text,
+    group: Text,
+    mode: u16,
+    acl: Text,
+    xattrs: List<Xattr>,
+    mtime: u64,
+}
+
+impl Model for Attrs {
+    ghost use Rattle.std.specs.Prelude.{◌≡◌, None};
+    ghost use Rattle.dc_attrs.specs.Attributes.{Attributes};
+
+    ghost Value = { Attributes };
+
+    ghost use Rattle.dc_attrs.specs.Limits.{bad_field};
+
+    ghost view = { λ a. record { replication = a.replication; block_size = a.block_size; user = a.user; group = a.group; mode = a.mode; acl = a.acl; xattrs = a.xattrs; mtime = a.mtime } };
+
+    ghost invariant = { λ a. bad_field (record { replication = a.replication; block_size = a.block_size; user = a.user; group = a.group; mode = a.mode; acl = a.acl; xattrs = a.xattrs; mtime = a.mtime }) ≡ None };
+}
+
+impl Attrs {
+    /// The attributes of a new file: replication 3, block size 134,217,728, mode octal 644, nothing else.
+    /// It takes no memory.
+    #[tactic(auto, unfolding(crate::specs::Attributes::default_file, crate::specs::Limits::bad_field))]
+    pub fn default_file(alloc: Global) -> Attrs
+        ensures { result ≡ default_file }
+    {
+        Attrs {
+            replication: 3,
+            block_size: 134_217_728,
+            user: Text::new(alloc),
+            group: Text::new(alloc),
+            mode: 0o644,
+            acl: Text::new(alloc),
+            xattrs: List::new(alloc),
+            mtime: 0,
+        }
+    }
+
+    /// The attributes of a new directory: replication 0, block size 0, mode octal 755, nothing else.
+    /// It takes no memory.
+    #[tactic(auto, unfolding(crate::specs::Attributes::default_dir, crate::specs::Limits::bad_field))]
+    pub fn default_dir(alloc: Global) -> Attrs
+        ensures { result ≡ default_dir }
+    {
+        Attrs {
+            replication: 0,
+            block_size: 0,
+            user: Text::new(alloc),
+            group: Text::new(alloc),
+            mode: 0o755,
+            acl: Text::new(alloc),
+            xattrs: List::new(alloc),
+            mtime: 0,
+        }
+    }
+
+    /// Whether a file may have these attributes: replication and block size are at least 1.
+    pub fn fits_file(&self) -> bool
+        ensures { result ≡ fits_file self.now }
+    {
+        self.replication >= 1 && self.block_size >= 1
+    }
+
+    /// Whether a directory may have these attributes: replication and block size are 0.
+    pub fn fits_dir(&self) -> bool
+        ensures { result ≡ fits_dir self.now }
+    {
+        self.replication == 0 && self.block_size == 0
+    }
+
+    /// How many replicas a file's blocks have.
+    pub fn replication(&self) -> u16
+        ensures { result ≡ self.now.replication }
+    {
+        self.replication
+    }
+
+    /// The size of a file's blocks, in bytes.
+    pub fn block_size(&self) -> u64
+        ensures { result ≡ self.now.block_size }
+    {
+        self.block_size
+    }
+
+    /// The owner.
+    pub fn user(&self) -> &str
+        ensures { result.now ≡ self.now.user }
+    {
+        self.user.as_str()
+    }
+
+    /// The group.
+    pub fn group(&self) -> &str
+        ensures { result.now ≡ self.now.group }
+    {
+        self.group.as_str()
+    }
+
+    /// The permission bits.
+    pub fn mode(&self) -> u16
+        ensures { result ≡ self.now.mode }
+    {
+        self.mode
+    }
+
+    /// The access control list.
+    pub fn acl(&self) -> &str
+        ensures { result.now ≡ self.now.acl }
+    {
+        self.acl.as_str()
+    }
+
+    /// The extended attributes, in strictly ascending order of names.
+    pub fn xattrs(&self) -> &[Xattr]
+        ensures { result.now ≡ self.now.xattrs }
+    {
+        self.xattrs.as_slice()
+    }
+
+    /// The time of the last change, in milliseconds since the epoch.
+    pub fn mtime(&self) -> u64
+        ensures { result ≡ self.now.mtime }
+    {
+        self.mtime
+    }
+
+    /// Equal attributes.
+    pub fn copy(&self, alloc: Global) -> Result<Attrs, OutOfMemory>
+        ensures { IfOk result (λ a. a ≡ self.now) }
+    {
+        let user = Text::read(alloc, self.user.as_str())?;
+        let group = Text::read(alloc, self.group.as_str())?;
+        let acl = Text::read(alloc, self.acl.as_str())?;
+        let xattrs = copy_xattrs(alloc, self.xattrs.as_slice())?;
+        Ok(Attrs {
+            replication: self.replication,
+            block_size: self.block_size,
+            user,
+            group,
+            mode: self.mode,
+            acl,
+            xattrs,
+            mtime: self.mtime,
+        })
+    }
+}
+
+// An equal extended attribute.
+fn copy_xattr(alloc: Global, xattr: &Xattr) -> Result<Xattr, OutOfMemory>
+    ensures { IfOk result (λ copy. copy ≡ xattr.now) }
+{
+    let name = Text::read(alloc, xattr.name.as_str())?;
+    let value = Text::read(alloc, xattr.value.as_str())?;
+    Ok(Xattr { name, value })
+}
+
+// Equal extended attributes.
+fn copy_xattrs(alloc: Global, xattrs: &[Xattr]) -> Result<List<Xattr>, OutOfMemory>
+    ensures { IfOk result (λ copies. copies ≡ xattrs.now) }
+{
+    let mut copies = List::new(alloc);
+    for xattr in xattrs {
+        let copy = copy_xattr(alloc, xattr)?;
+        copies.push(copy).map_err(|_| OutOfMemory)?;
+    }
+    Ok(copies)
+}
