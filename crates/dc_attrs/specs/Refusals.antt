@@ -43,11 +43,11 @@ abbrev pub refused_new : Option Node → Option TreeError → Option TreeError
 refused_new None why = why
 refused_new (Some n) why = Some tree_error.Exists
 
--- no directory may stand where a file is to stand, and a file has its parent
+-- no directory may stand where a file is to stand
 abbrev pub refused_over : Option Node → Option TreeError → Option TreeError
 refused_over None why = why
 refused_over (Some (Dir a)) why = Some tree_error.IsDir
-refused_over (Some (File b a)) why = None
+refused_over (Some (File b a)) why = why
 
 abbrev pub refused_root : Names → Option TreeError
 refused_root [] = Some tree_error.Root
