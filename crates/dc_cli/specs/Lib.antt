@@ -1,4 +1,5 @@
 pub mod Listed
 pub mod Items
+pub mod Walks
 pub mod Result
 pub mod Effects
