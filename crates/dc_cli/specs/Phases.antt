@@ -1,11 +1,13 @@
 -- What the parts of a run do to a tree, one element after the other.
 use Rattle.std.specs.Prelude.{◌≡◌, ℕ, Bool, true, false, not, List, [], ◌∷◌, ◌++◌, map, filter, take, length, Option, Some, None}
+use Rattle.std.specs.List.{sum_by}
 use Rattle.dc_path.specs.Paths.{Names}
 use Rattle.dc_attrs.specs.Attributes.{default_file}
 use Rattle.dc_attrs.specs.Trees.{Node, Dir, File, Tree, updated, made}
 use Rattle.dc_fs.specs.Temporaries.{told_if}
 use Rattle.dc_cli.specs.Items.{rel_of}
 use Rattle.dc_cli.specs.declared.listing.Item.{Item}
+use Rattle.dc_cli.specs.declared.outcome.Counts.{Counts}
 
 abbrev pub is_dir_item : Item → Bool
 is_dir_item item = item.dir
@@ -62,3 +64,17 @@ content_of tells s root item = (rel_of item, told_if tells (take item.length (fi
 -- the files of a listing, in its order
 abbrev pub contents_of : Bool → Tree → Names → List Item → List Content
 contents_of tells s root items = map (content_of tells s root) (filter is_file_item items)
+
+-- ---- counters, as a listing of files that all land gives them
+abbrev pub length_of : Item → ℕ
+length_of item = item.length
+
+abbrev pub counts_from : List Item → Counts
+counts_from items = record {
+  copied = length (filter is_file_item items);
+  dirs = length (filter is_dir_item items);
+  skipped = 0;
+  failed = 0;
+  bytes_copied = sum_by length_of (filter is_file_item items);
+  bytes_skipped = 0;
+}
