@@ -3,5 +3,9 @@
 
 mod listing;
 mod outcome;
+mod output;
+mod stdout;
 
 pub use outcome::{Answer, BadTarget, Counts, OptionError, Outcome, Phase, TooManyOf};
+pub use output::{print, status};
+pub use stdout::StdSink;
