@@ -6,3 +6,6 @@ pub mod Effects
 pub mod Phases
 pub mod Ready
 pub mod Steps
+pub mod Numbers
+pub mod Output
+pub mod Pieces

@@ -5,5 +5,9 @@ mod commit;
 mod copying;
 mod listing;
 mod outcome;
+mod output;
+mod stdout;
 
 pub use outcome::{Answer, BadTarget, Counts, OptionError, Outcome, Phase, TooManyOf};
+pub use output::{print, status};
+pub use stdout::StdSink;
