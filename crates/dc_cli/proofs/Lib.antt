@@ -1,3 +1,4 @@
 pub mod CopyLemmas
 pub mod CommitLemmas
 pub mod ListingLemmas
+pub mod PartLemmas
