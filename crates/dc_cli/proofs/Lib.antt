@@ -2,3 +2,4 @@ pub mod CopyLemmas
 pub mod CommitLemmas
 pub mod ListingLemmas
 pub mod PartLemmas
+pub mod EffectLemmas
