@@ -3,3 +3,4 @@ pub mod CommitLemmas
 pub mod ListingLemmas
 pub mod OutputLemmas
 pub mod PartLemmas
+pub mod EffectLemmas

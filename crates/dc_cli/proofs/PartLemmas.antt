@@ -1,5 +1,5 @@
 -- A part of a list that ascends by its paths.
-use Rattle.std.proofs.Common.{◌≡◌, List, [], ◌∷◌, Bool, true, false, cond, ◌&&◌, Option, Some, None, map, filter, refl, sym, ◌∙◌, ap, subst}
+use Rattle.std.proofs.Common.{◌≡◌, List, [], ◌∷◌, Bool, true, false, cond, ◌&&◌, Option, Some, None, map, filter, refl, ◌∙◌, ap, subst}
 use Rattle.std.specs.List.{list_all}
 use Rattle.dc_path.specs.Found.{found}
 use Rattle.dc_path.specs.Order.{path_lt, is_ascending}
