@@ -1,0 +1,7 @@
+//! A tree of directories and files in memory.
+#![tactic(auto)]
+
+mod arena;
+mod tree;
+
+pub use tree::MemTree;
