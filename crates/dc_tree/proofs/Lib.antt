@@ -6,3 +6,4 @@ pub mod Refusing
 pub mod Steps
 pub mod Listing
 pub mod Valid
+pub mod FittingLemmas

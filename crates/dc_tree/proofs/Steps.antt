@@ -8,7 +8,7 @@ use Rattle.dc_attrs.specs.declared.shown.Seen.TheVariants as seen_as
 use Rattle.dc_attrs.specs.Trees.{seen_node, Node, Dir, File, Tree, with_node, without, moved, updated, appended, with_attrs}
 use Rattle.dc_path.specs.Paths.{front_of, cut}
 use Rattle.dc_tree.specs.Fitting.{is_fitting, fits_at}
-use Rattle.dc_attrs.specs.Attributes.{fits_dir, default_dir}
+use Rattle.dc_attrs.specs.Attributes.{fits_dir}
 use Rattle.dc_tree.specs.Arena.{Cell, DirCell, FileCell, cell_at, node_of, links_of, find, link, node, reach, tree_of, IsForest, IsArena, IsFileNode}
 use Rattle.dc_tree.specs.Places.{IsVacant, IsTaken, IsRoot}
 use Rattle.dc_tree.specs.Edits.{Adds, Nodes, Puts, Links, Relinked, Keeps}
@@ -90,10 +90,6 @@ pub file_kind : (o : Option Node) (b : List ℕ) (a : Attributes) → IsFileNode
 file_kind o b a (c, d, e) = files c d b a e refl
 
 -- the root alone
-
-pub default_fits : fits_dir default_dir ≡ true
-unfolding default_dir
-default_fits = refl
 
 bare_link : (a : Attributes) (k : ℕ) (x : List ℕ) → find x (links_of (cell_at (DirCell a [] ∷ []) k)) ≡ None
 bare_link a zero x = refl

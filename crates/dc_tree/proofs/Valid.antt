@@ -1,14 +1,14 @@
 -- The tree of an arena is a tree, with attributes that fit.
-use Rattle.std.proofs.Common.{true, ◌≡◌, ◌≢◌, ℕ, List, [], ◌∷◌, ◌++◌, Option, Some, None, refl, sym, ◌∙◌, ap}
+use Rattle.std.proofs.Common.{true, ◌≡◌, ◌≢◌, ℕ, List, [], ◌∷◌, ◌++◌, Option, Some, None, refl, sym, ◌∙◌, ap, subst}
 use Rattle.std.specs.Option.{option_and_then}
 use Rattle.dc_attrs.specs.Trees.{Tree, Node, Dir, File}
 use Rattle.dc_tree.specs.Arena.{Cell, link, node, reach, tree_of, IsArena, IsDirNode}
-use Rattle.dc_attrs.specs.Attributes.{Attributes}
+use Rattle.dc_attrs.specs.Attributes.{Attributes, default_file, default_dir, fits_file, fits_dir}
 use Rattle.dc_attrs.specs.Trees.{IsTree}
 use Rattle.dc_tree.specs.Fitting.{is_fitting, HasFittingAttrs}
 use Rattle.dc_path.specs.Paths.{Names}
 use Rattle.dc_tree.proofs.Graph.{reach_before, reached_live, then_from}
-use Rattle.dc_tree.proofs.Ways.{tree_of-is}
+use Rattle.dc_tree.proofs.Ways.{tree_of-is, tree_here}
 
 holds_dir : (cells : List Cell) (k : ℕ) (x : List ℕ) (c : ℕ) (o : Option Node) → IsArena cells → node cells k ≡ o → o ≢ None → link cells k x ≡ Some c → IsDirNode o
 holds_dir cells k x c None f e n h = absurd (n refl)
@@ -23,8 +23,7 @@ pub parent_is_dir : (cells : List Cell) (p : List (List ℕ)) (x : List ℕ) (v 
 parent_is_dir cells p x v f e =
     let t = then_from (node cells) (reach (link cells) 0 (p ++ x ∷ [])) v (sym (ap (λ (t : Tree). t (p ++ x ∷ [])) (tree_of-is cells)) ∙ e) in
     let s = reach_before (link cells) 0 p x t.0 t.1 in
-    let d = holds_dir cells s.0 x t.0 (node cells s.0) f refl (reached_live (link cells) (node cells) f p s.0 s.1) s.2 in
-    (d.0, ap (λ (t : Tree). t p) (tree_of-is cells) ∙ ap (option_and_then (node cells)) s.1 ∙ d.1)
+    subst IsDirNode (sym (tree_here cells p s.0 s.1)) (holds_dir cells s.0 x t.0 (node cells s.0) f refl (reached_live (link cells) (node cells) f p s.0 s.1) s.2)
 
 pub is_tree : (cells : List Cell) → IsArena cells → IsTree (tree_of cells)
 is_tree cells f = record { root = root_is_dir cells f; parents = λ p x v e. parent_is_dir cells p x v f e }

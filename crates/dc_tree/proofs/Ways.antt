@@ -39,7 +39,7 @@ nothing_from : (t : Tree) (front rest : List (List ℕ)) → t front ≡ None �
 nothing_from t front [] e = ap seen_node e
 nothing_from t front (x ∷ rest) e = ap (λ (o : Option Node). seen_on o (seen_from t (front ++ x ∷ []) rest)) e
 
-tree_here : (cells : List Cell) (front : List (List ℕ)) (at : ℕ) → reach (link cells) 0 front ≡ Some at → tree_of cells front ≡ node cells at
+pub tree_here : (cells : List Cell) (front : List (List ℕ)) (at : ℕ) → reach (link cells) 0 front ≡ Some at → tree_of cells front ≡ node cells at
 tree_here cells front at e = ap (λ (t : Tree). t front) (tree_of-is cells) ∙ ap (option_and_then (node cells)) e
 
 seen_step : (cells : List Cell) (front : List (List ℕ)) (at : ℕ) (x : List ℕ) (rest : List (List ℕ)) (o : Option Node) (l : Option ℕ) → reach (link cells) 0 front ≡ Some at → node cells at ≡ o → link cells at x ≡ l

@@ -1,4 +1,8 @@
-//! The slots of a tree in memory.
+//! The slots of a tree in memory: where paths lead among them, and the steps that change them.
+//!
+//! Slot 0 is the root. A directory's children are links, from a name to a slot, and each slot is led to by one link at
+//! most. Slots that were cut off stand in one chain, by `next`: first those whose children are still to be given up, then
+//! those that are free. Whoever takes a slot from the chain looks at it first, so a tree never rests on the chain.
 #![tactic(auto)]
 
 ghost use Rattle.std.specs.Prelude.{◌≡◌, ℕ, ◌≤◌, ◌<◌, [], length, take, map, Some, None, true, ◌++◌, IsSome, IfOk, OnOk, OnErr};
@@ -18,17 +22,20 @@ use std::alloc::Global;
 use std::collections::BTreeMap;
 use std::mem;
 
-/// A directory, a file, or what was cut off: its children are cut off too, and then it may be taken again.
+/// What an arena holds.
 #[derive(Drop)]
 pub enum Slot {
+    /// A directory, with the slots of its children.
     Dir {
         attrs: Attrs,
         children: BTreeMap<Name, usize>,
     },
+    /// A file.
     File {
         bytes: List<u8>,
         attrs: Attrs,
     },
+    /// What was cut off. Once it has no children left, it may be taken again.
     Gone {
         next: usize,
         children: BTreeMap<Name, usize>,
@@ -38,8 +45,11 @@ pub enum Slot {
 /// Where a path leads.
 #[derive(Clone, Copy)]
 pub enum Way {
+    /// To a slot.
     At(usize),
+    /// Nowhere: it or a prefix is absent.
     Missing,
+    /// Nowhere: a proper prefix is a file.
     NotDir,
 }
 
@@ -79,10 +89,15 @@ pub fn walk(slots: &[Slot], path: &Path, count: usize) -> Way
 /// What is at a path, and under what.
 #[derive(Clone, Copy)]
 pub enum Place {
+    /// The root.
     Root,
+    /// Something, in the slot `child` under the directory in the slot `parent`.
     Taken { parent: usize, child: usize },
+    /// Nothing, under the directory in this slot.
     Vacant(usize),
+    /// Nothing: a proper prefix is absent.
     Missing,
+    /// Nothing: a proper prefix is a file.
     NotDir,
 }
 
@@ -352,8 +367,11 @@ pub fn dismiss(alloc: Global, slots: &mut Vec<Slot>, at: usize, next: usize)
 
 /// What is taken out of a slot that was given up.
 pub enum Popped {
+    /// A child.
     Child(usize),
+    /// Nothing, since no child is left; the slot after it in the chain.
     Bare(usize),
+    /// Nothing, since the slot was not given up.
     Kept,
 }
 
@@ -373,7 +391,7 @@ fn pop_in(slot: &mut Slot) -> Popped
     }
 }
 
-// Puts a slot in front of the free ones.
+// Puts a slot that was given up in front of another.
 fn set_next(slot: &mut Slot, free: usize)
     ensures { cell_of slot.new ≡ cell_of slot.old }
 {
@@ -393,7 +411,7 @@ fn pop_at(slots: &mut Vec<Slot>, at: usize) -> Popped
     pop_in(&mut slots[at])
 }
 
-// Puts a slot in front of the free ones.
+// Puts a slot that was given up in front of the free ones.
 fn free_at(slots: &mut Vec<Slot>, at: usize, free: usize)
     requires { at < length slots.old.items }
     ensures { map cell_of slots.new.items ≡ map cell_of slots.old.items }
@@ -401,7 +419,7 @@ fn free_at(slots: &mut Vec<Slot>, at: usize, free: usize)
     set_next(&mut slots[at], free);
 }
 
-// Takes one link out of a slot that was given up, or frees the slot; gives the slot to go on with.
+// Takes one link out of a slot that was given up, or frees the slot; answers the slot to go on with.
 fn drain_one(alloc: Global, slots: &mut Vec<Slot>, free: &mut usize, at: usize) -> Option<usize>
     ensures { Keeps (map cell_of slots.old.items) (map cell_of slots.new.items) }
 {
@@ -425,7 +443,8 @@ fn drain_one(alloc: Global, slots: &mut Vec<Slot>, free: &mut usize, at: usize) 
     }
 }
 
-/// Frees a slot that was given up, and all under it.
+/// Frees a slot that was given up, and all under it. It goes down to a child and back up to the slot above by `next`, so
+/// it needs neither memory nor the stack.
 pub fn drain(alloc: Global, slots: &mut Vec<Slot>, free: &mut usize, top: usize)
     ensures { Keeps (map cell_of slots.old.items) (map cell_of slots.new.items) }
 {

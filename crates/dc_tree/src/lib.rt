@@ -5,3 +5,6 @@ mod arena;
 mod tree;
 
 pub use tree::MemTree;
+
+#[cfg(test)]
+mod tests;

@@ -27,8 +27,9 @@ use std::marker::Model;
 ///
 /// It is an arena of slots, in which each directory has an ordered map of its children. The type keeps that it is a tree:
 /// the root is a directory, and so is the parent of all that stands. It keeps too that attributes fit: those of each file
-/// fit a file, those of each directory a directory. A lookup takes one search in a map for each name of the path; a
-/// rename takes that and no more, whatever stands under what moves.
+/// fit a file, those of each directory a directory. A lookup takes one search in a map for each name of the path, and a
+/// rename takes two lookups, however much moves. `copy` and `remove` go over the slots in loops, so a deep tree does not
+/// use up the stack.
 #[derive(Drop)]
 pub struct MemTree {
     slots: Vec<Slot>,
@@ -446,5 +447,13 @@ impl MemTree {
             free: self.free,
             alloc,
         })
+    }
+}
+
+#[cfg(test)]
+impl MemTree {
+    // How many slots the arena has.
+    pub fn slot_count(&self) -> usize {
+        self.slots.len()
     }
 }
