@@ -1,13 +1,13 @@
 -- Slots and cells: what a read says of a cell, and what a write makes of the cells.
-use Rattle.std.proofs.Common.{◌≡◌, ℕ, ◌+◌, ◌<◌, List, [], ◌∷◌, ◌++◌, true, false, Option, Some, None, length, refl, sym, ◌∙◌, ap, subst, arith, ◌⊎◌, inl, inr, map, zero, suc, get_or, slice_get, add-one, take, drop}
+use Rattle.std.proofs.Common.{◌≡◌, ℕ, ◌+◌, ◌<◌, List, [], ◌∷◌, ◌++◌, true, false, Option, Some, None, length, refl, sym, ◌∙◌, ap, subst, arith, map, zero, suc, get_or, slice_get, add-one, take, drop}
 use Rattle.std.proofs.Math.ListN.{set}
 use Rattle.std.specs.BTreeMap.{BTreeMap, UpdatesBy}
 use Rattle.std.specs.Ordering.{nat_cmp, is_eq}
 use Rattle.std.specs.Cmp.Lexicographic.{slice_cmp}
 use Rattle.std.proofs.lemmas.Map.Text.{is_eq-slice_cmp}
+use Rattle.dc_tree.proofs.Graph.{Spot, here, away, spot}
 use Rattle.dc_path.proofs.PathLemmas.{NameCase, same, other, name_case}
 use Rattle.std.proofs.Math.Path.{fun_ext}
-use Rattle.std.proofs.lemmas.Bool.{cases_eq}
 use Rattle.std.proofs.lemmas.Bool.Decides.{nat_tests}
 use Rattle.std.specs.Prelude.{nat_lt}
 use Rattle.dc_attrs.specs.Attributes.{Attributes}
@@ -103,17 +103,6 @@ unfolding node
 within_some [] i v e = cc
 within_some (x ∷ slots) zero v e = omega arith
 within_some (x ∷ slots) (suc i) v e = let h : i < length slots = within_some slots i v e in omega arith
-
-data Spot (k at : ℕ) : Type 0 where
-  here : k ≡ at → Spot k at
-  away : (k ≡ at → ⊥) → Spot k at
-
-spot_of : (k at : ℕ) → (k ≡ at) ⊎ (k ≡ at → ⊥) → Spot k at
-spot_of k at (inl e) = here e
-spot_of k at (inr e) = away e
-
-spot : (k at : ℕ) → Spot k at
-spot k at = spot_of k at (cases_eq k at)
 
 links_others : (old new : List Cell) (at : ℕ) (name : List ℕ) (to : Option ℕ) (b c : Cell) → cell_at old at ≡ b → Child b name to c → Puts old at c new → (k : ℕ) (x : List ℕ) → Spot k at → (k ≡ at → x ≡ name → ⊥) → find x (links_of (cell_at new k)) ≡ find x (links_of (cell_at old k))
 links_others old new at name to b c is d p k x (here e) apart =

@@ -1,9 +1,8 @@
 -- Which attributes fit what a look showed.
-use Rattle.std.proofs.Common.{◌≡◌, ℕ, List, [], Bool, true, Option, Some, None, refl, sym, ◌∙◌, ap}
+use Rattle.std.proofs.Common.{◌≡◌, ℕ, [], true, Option, Some, None, refl, sym, ◌∙◌, ap}
 use Rattle.dc_path.specs.Paths.{Names}
 use Rattle.dc_attrs.specs.Attributes.{Attributes, default_file, default_dir, fits_file, fits_dir}
 use Rattle.dc_attrs.specs.Trees.{Node, Dir, File, Tree, IsTree, seen, seen_node}
-use Rattle.dc_attrs.specs.declared.shown.Seen.{Seen}
 use Rattle.dc_attrs.specs.declared.shown.Seen.TheVariants as seen_as
 use Rattle.dc_attrs.proofs.TreeLemmas.{seen_from-Dir, seen_from-File, seen_from-there, dir_at, file_at}
 use Rattle.dc_tree.specs.Fitting.{fits_at}

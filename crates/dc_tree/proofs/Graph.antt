@@ -90,6 +90,18 @@ live_last g n f p i (ended r x e) a h = let s = reach_before g 0 r x i (sym (ap 
 pub reached_live : (g : Link) (n : ℕ → Option Node) → IsForest g n → (p : List (List ℕ)) (i : ℕ) → reach g 0 p ≡ Some i → n i ≢ None
 reached_live g n f p i = live_last g n f p i (last_case p)
 
+-- whether a cell is this one
+pub data Spot (k at : ℕ) : Type 0 where
+  here : k ≡ at → Spot k at
+  away : (k ≡ at → ⊥) → Spot k at
+
+spot_of : (k at : ℕ) → (k ≡ at) ⊎ (k ≡ at → ⊥) → Spot k at
+spot_of k at (inl e) = here e
+spot_of k at (inr e) = away e
+
+pub spot : (k at : ℕ) → Spot k at
+spot k at = spot_of k at (cases_eq k at)
+
 -- whether a link is this one
 pub data LinkCase (k : ℕ) (x : List ℕ) (a : ℕ) (y : List ℕ) : Type 0 where
   this : k ≡ a → x ≡ y → LinkCase k x a y

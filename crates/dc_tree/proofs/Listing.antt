@@ -1,6 +1,5 @@
 -- The names under a path, and equal arenas.
-use Rattle.std.proofs.Common.{◌≡◌, ◌≢◌, ℕ, ◌+◌, ◌<◌, List, [], ◌∷◌, ◌++◌, Bool, true, false, cond, ◌||◌, Option, Some, None, length, refl, sym, ◌∙◌, ap, subst, arith, map, zero, suc, get_or, take, add-one, Result, Ok, Err}
-use Rattle.std.specs.Result.{IfOk}
+use Rattle.std.proofs.Common.{◌≡◌, ◌≢◌, ℕ, ◌+◌, ◌<◌, List, [], ◌∷◌, ◌++◌, Bool, true, false, cond, ◌||◌, Option, Some, None, length, refl, sym, ◌∙◌, ap, subst, arith, map, zero, suc, get_or, take, add-one}
 use Rattle.std.specs.Option.{is_some, option_and_then}
 use Rattle.std.specs.List.{list_any}
 use Rattle.std.specs.Map.{keys_of}
@@ -25,10 +24,6 @@ some_cond false v o c e = e
 pub find_names : (x : List ℕ) (links : List (List ℕ × ℕ)) → is_some (find x links) ≡ list_any (same_name x) (keys_of links)
 find_names x [] = refl
 find_names x (e ∷ links) = some_cond (is_eq (slice_cmp nat_cmp x e.0)) e.1 (find x links) (list_any (same_name x) (keys_of links)) (find_names x links) ∙ ap (λ b. b || list_any (same_name x) (keys_of links)) (is_eq-slice_cmp x e.0)
-
-pub if_ok_then : {T E : Type 0} {P Q : T → Type 0} (r : Result T E) → ((x : T) → P x → Q x) → IfOk r P → IfOk r Q
-if_ok_then (Ok x) f p = f x p
-if_ok_then (Err e) f p = p
 
 pub names_are : (cells : List Cell) (at : ℕ) (c : Cell) (m : BTreeMap (List ℕ) ℕ) (names : List (List ℕ)) → cell_at cells at ≡ c → links_of c ≡ m.entries → IsOrdered (slice_cmp nat_cmp) m → names ≡ keys m → IsNames (λ x. is_some (link cells at x)) names
 names_are cells at c m names is links sorted e = record {

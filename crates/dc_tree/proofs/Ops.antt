@@ -1,8 +1,8 @@
 -- What a change of a graph makes of its tree: a node changed where it stands, a link cut, added or moved.
-use Rattle.std.proofs.Common.{◌≡◌, ◌≢◌, ℕ, List, [], ◌∷◌, ◌++◌, Bool, true, false, cond, Option, Some, None, nat_eq, ◌&&◌, refl, sym, ◌∙◌, ap, ◌⊎◌, inl, inr}
+use Rattle.std.proofs.Common.{◌≡◌, ◌≢◌, ℕ, List, [], ◌∷◌, ◌++◌, Bool, true, false, cond, Option, Some, None, nat_eq, ◌&&◌, refl, sym, ◌∙◌, ap}
 use Rattle.std.proofs.Math.Path.{fun_ext}
 use Rattle.std.specs.Option.{option_and_then}
-use Rattle.std.proofs.lemmas.Bool.{cases_eq, eq-eqb, eqb-true}
+use Rattle.std.proofs.lemmas.Bool.{eq-eqb, eqb-true}
 use Rattle.std.proofs.lemmas.List.{append-nil}
 use Rattle.dc_attrs.specs.Attributes.{Attributes}
 use Rattle.dc_attrs.specs.Trees.{Node, Dir, File, Tree, with_node, without, moved}
@@ -12,7 +12,7 @@ use Rattle.dc_tree.specs.Fitting.{is_fitting}
 use Rattle.dc_tree.specs.Arena.{reach, IsForest}
 use Rattle.dc_tree.specs.Edits.{Relinked, Renoded}
 use Rattle.dc_path.proofs.PathLemmas.{path_decides, cut-append, append-cut, not_longer, Last, empty, ended, last_case, same_name-refl, name_decides, cut_more}
-use Rattle.dc_tree.proofs.Graph.{Link, one_path, reached_live, reach_next, reach_on, reach_off, reach_before, relinked, kept_below, forest_cut, forest_add, IsOrphan, cut_orphan, LinkCase, this, elsewhere, link_case}
+use Rattle.dc_tree.proofs.Graph.{Link, one_path, reached_live, reach_next, reach_on, reach_off, reach_before, relinked, kept_below, forest_cut, forest_add, IsOrphan, cut_orphan, LinkCase, this, elsewhere, link_case, Spot, here, away, spot}
 
 abbrev pub graph_tree : Link → (ℕ → Option Node) → Tree
 graph_tree g n p = option_and_then n (reach g 0 p)
@@ -47,44 +47,33 @@ with_at g n m at v p q f there r (two_paths t e) =
 pub tree_with : (g : Link) (n m : ℕ → Option Node) (at : ℕ) (v : Node) (p : List (List ℕ)) → IsForest g n → reach g 0 p ≡ Some at → Renoded n m at (Some v) → graph_tree g m ≡ with_node (graph_tree g n) p v
 tree_with g n m at v p f there r = fun_ext (λ q. with_at g n m at v p q f there r (path_case p q))
 
-data At (k at : ℕ) : Type 0 where
-  here : k ≡ at → At k at
-  away : (k ≡ at → ⊥) → At k at
-
-at_of : (k at : ℕ) → (k ≡ at) ⊎ (k ≡ at → ⊥) → At k at
-at_of k at (inl e) = here e
-at_of k at (inr e) = away e
-
-at_case : (k at : ℕ) → At k at
-at_case k at = at_of k at (cases_eq k at)
-
-renode_live : (n m : ℕ → Option Node) (at : ℕ) (v : Node) → Renoded n m at (Some v) → (c : ℕ) → At c at → n c ≢ None → m c ≢ None
+renode_live : (n m : ℕ → Option Node) (at : ℕ) (v : Node) → Renoded n m at (Some v) → (c : ℕ) → Spot c at → n c ≢ None → m c ≢ None
 renode_live n m at v r c (here e) h w = let k : m c ≡ Some v = ap m e ∙ r.here in cc
 renode_live n m at v r c (away e) h w = h (sym (r.others c e) ∙ w)
 
-renode_root : (g : Link) (n m : ℕ → Option Node) (at : ℕ) (v : Node) → IsForest g n → Renoded n m at (Some v) → ((at ≡ 0) → (a : Attributes) × (v ≡ Dir a)) → At 0 at → (a : Attributes) × (m 0 ≡ Some (Dir a))
+renode_root : (g : Link) (n m : ℕ → Option Node) (at : ℕ) (v : Node) → IsForest g n → Renoded n m at (Some v) → ((at ≡ 0) → (a : Attributes) × (v ≡ Dir a)) → Spot 0 at → (a : Attributes) × (m 0 ≡ Some (Dir a))
 renode_root g n m at v f r dir (here e) = let d = dir (sym e) in (d.0, ap m e ∙ r.here ∙ ap (λ (w : Node). Some w) d.1)
 renode_root g n m at v f r dir (away e) = (f.root.0, r.others 0 e ∙ f.root.1)
 
-renode_leaves : (g : Link) (n m : ℕ → Option Node) (at : ℕ) (v : Node) → IsForest g n → Renoded n m at (Some v) → ((b : List ℕ) (a : Attributes) → v ≡ File b a → (x : List ℕ) → g at x ≡ None) → (k : ℕ) (x : List ℕ) (b : List ℕ) (a : Attributes) → At k at → m k ≡ Some (File b a) → g k x ≡ None
+renode_leaves : (g : Link) (n m : ℕ → Option Node) (at : ℕ) (v : Node) → IsForest g n → Renoded n m at (Some v) → ((b : List ℕ) (a : Attributes) → v ≡ File b a → (x : List ℕ) → g at x ≡ None) → (k : ℕ) (x : List ℕ) (b : List ℕ) (a : Attributes) → Spot k at → m k ≡ Some (File b a) → g k x ≡ None
 renode_leaves g n m at v f r leaf k x b a (here e) w =
     let h : Some v ≡ Some (File b a) = sym (ap m e ∙ r.here) ∙ w in
     let i : v ≡ File b a = cc in
     ap (λ (j : ℕ). g j x) e ∙ leaf b a i x
 renode_leaves g n m at v f r leaf k x b a (away e) w = f.leaves k x b a (sym (r.others k e) ∙ w)
 
-renode_fits : (n m : ℕ → Option Node) (at : ℕ) (to : Option Node) → ((k : ℕ) → is_fitting (n k) ≡ true) → Renoded n m at to → is_fitting to ≡ true → (k : ℕ) → At k at → is_fitting (m k) ≡ true
+renode_fits : (n m : ℕ → Option Node) (at : ℕ) (to : Option Node) → ((k : ℕ) → is_fitting (n k) ≡ true) → Renoded n m at to → is_fitting to ≡ true → (k : ℕ) → Spot k at → is_fitting (m k) ≡ true
 renode_fits n m at to f r fits k (here e) = ap is_fitting (ap m e ∙ r.here) ∙ fits
 renode_fits n m at to f r fits k (away e) = ap is_fitting (r.others k e) ∙ f k
 
 pub forest_renode : (g : Link) (n m : ℕ → Option Node) (at : ℕ) (v : Node) → IsForest g n → Renoded n m at (Some v) → ((at ≡ 0) → (a : Attributes) × (v ≡ Dir a)) → ((b : List ℕ) (a : Attributes) → v ≡ File b a → (x : List ℕ) → g at x ≡ None) → is_fitting (Some v) ≡ true → IsForest g m
 forest_renode g n m at v f r dir leaf fits = record {
-  root = renode_root g n m at v f r dir (at_case 0 at);
-  live = λ k x c e. renode_live n m at v r c (at_case c at) (f.live k x c e);
+  root = renode_root g n m at v f r dir (spot 0 at);
+  live = λ k x c e. renode_live n m at v r c (spot c at) (f.live k x c e);
   no_root = f.no_root;
   apart = f.apart;
-  leaves = λ k x b a w. renode_leaves g n m at v f r leaf k x b a (at_case k at) w;
-  fits = λ k. renode_fits n m at (Some v) f.fits r fits k (at_case k at);
+  leaves = λ k x b a w. renode_leaves g n m at v f r leaf k x b a (spot k at) w;
+  fits = λ k. renode_fits n m at (Some v) f.fits r fits k (spot k at);
 }
 
 -- a cell to which nothing leads is given up
@@ -96,7 +85,7 @@ orphan_last g at orphan apart p (ended r x e) w = let s = reach_before g 0 r x a
 pub orphan_out : (g : Link) (at : ℕ) → IsOrphan g at → (at ≡ 0 → ⊥) → (p : List (List ℕ)) → reach g 0 p ≡ Some at → ⊥
 orphan_out g at orphan apart p = orphan_last g at orphan apart p (last_case p)
 
-gone_leaves : (g : Link) (n m : ℕ → Option Node) (at : ℕ) → IsForest g n → Renoded n m at None → (k : ℕ) (x : List ℕ) (b : List ℕ) (a : Attributes) → At k at → m k ≡ Some (File b a) → g k x ≡ None
+gone_leaves : (g : Link) (n m : ℕ → Option Node) (at : ℕ) → IsForest g n → Renoded n m at None → (k : ℕ) (x : List ℕ) (b : List ℕ) (a : Attributes) → Spot k at → m k ≡ Some (File b a) → g k x ≡ None
 gone_leaves g n m at f r k x b a (here e) w = let h : m k ≡ None = ap m e ∙ r.here in cc
 gone_leaves g n m at f r k x b a (away e) w = f.leaves k x b a (sym (r.others k e) ∙ w)
 
@@ -106,8 +95,8 @@ forest_gone g n m at f r orphan apart = record {
   live = λ k x c e w. f.live k x c e (sym (r.others c (λ i. orphan k x (e ∙ ap (λ (j : ℕ). Some j) i))) ∙ w);
   no_root = f.no_root;
   apart = f.apart;
-  leaves = λ k x b a w. gone_leaves g n m at f r k x b a (at_case k at) w;
-  fits = λ k. renode_fits n m at None f.fits r refl k (at_case k at);
+  leaves = λ k x b a w. gone_leaves g n m at f r k x b a (spot k at) w;
+  fits = λ k. renode_fits n m at None f.fits r refl k (spot k at);
 }
 
 pub tree_gone : (g : Link) (n m : ℕ → Option Node) (at : ℕ) → Renoded n m at None → IsOrphan g at → (at ≡ 0 → ⊥) → graph_tree g m ≡ graph_tree g n

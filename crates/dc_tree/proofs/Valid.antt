@@ -3,7 +3,6 @@ use Rattle.std.proofs.Common.{true, ◌≡◌, ◌≢◌, ℕ, List, [], ◌∷�
 use Rattle.std.specs.Option.{option_and_then}
 use Rattle.dc_attrs.specs.Trees.{Tree, Node, Dir, File}
 use Rattle.dc_tree.specs.Arena.{Cell, link, node, reach, tree_of, IsArena, IsDirNode}
-use Rattle.dc_attrs.specs.Attributes.{Attributes, default_file, default_dir, fits_file, fits_dir}
 use Rattle.dc_attrs.specs.Trees.{IsTree}
 use Rattle.dc_tree.specs.Fitting.{is_fitting, HasFittingAttrs}
 use Rattle.dc_path.specs.Paths.{Names}

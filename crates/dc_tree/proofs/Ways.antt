@@ -1,14 +1,17 @@
 -- Where a path leads in an arena, and what that shows of its tree.
-use Rattle.std.proofs.Common.{◌≡◌, ◌≢◌, ℕ, ◌-◌, ◌<◌, List, [], ◌∷◌, ◌++◌, Option, Some, None, length, refl, sym, ◌∙◌, ap, arith, slice_get, zero, suc}
+use Rattle.std.proofs.Common.{◌≡◌, ◌≢◌, ℕ, ◌-◌, ◌<◌, List, [], ◌∷◌, ◌++◌, Option, Some, None, length, refl, sym, ◌∙◌, ap, arith, slice_get, zero, suc, map, take}
 use Rattle.std.specs.Option.{option_and_then}
 use Rattle.dc_attrs.specs.Attributes.{Attributes}
 use Rattle.dc_attrs.specs.declared.shown.Seen.TheVariants as seen_as
+use Rattle.std.proofs.Math.Seq.{take-length}
+use Rattle.dc_path.specs.Paths.{Names}
+use Rattle.dc_tree.specs.declared.arena.Slot.{Slot}
 use Rattle.dc_tree.specs.declared.arena.Way.{Way}
 use Rattle.dc_tree.specs.declared.arena.Way.TheVariants as way_is
 use Rattle.dc_attrs.specs.Trees.{Node, Dir, File, Tree, seen_node, seen_on, seen_from, seen}
 use Rattle.dc_path.specs.Paths.{front_of}
 use Rattle.dc_attrs.specs.Refusals.{refused_in, refused_at, refused_file}
-use Rattle.dc_tree.specs.Arena.{Cell, reach, link, node, tree_of, IsArena, way_on, way_from, seen_way, node_way}
+use Rattle.dc_tree.specs.Arena.{cell_of, Cell, reach, link, node, tree_of, IsArena, way_on, way_from, seen_way, node_way}
 use Rattle.dc_tree.specs.Places.{IsUnder, IsRoot, IsTaken, IsVacant, IsCutOff}
 use Rattle.dc_attrs.specs.declared.refusals.TreeError.TheVariants as tree_error
 use Rattle.dc_tree.proofs.Graph.{reach_next, reached_live}
@@ -219,3 +222,11 @@ at_root cells p f e =
       dir = (f.root.0, here);
       seen = ap (seen (tree_of cells)) e ∙ ap seen_node (sym (ap (tree_of cells) e) ∙ here);
     }
+
+-- the way of a whole path, read off the slots
+pub whole_way : (slots inside : List Slot) (cells : List Cell) (p : Names) (n : ℕ) (way : Way) → way ≡ way_from (map cell_of slots) 0 (take n p) → slots ≡ inside → n ≡ length p → map cell_of inside ≡ cells → way ≡ way_from cells 0 p
+whole_way slots inside cells p n way e same count view =
+    e ∙ ap (λ (xs : List Slot). way_from (map cell_of xs) 0 (take n p)) same
+    ∙ ap (λ (n : ℕ). way_from (map cell_of inside) 0 (take n p)) count
+    ∙ ap (way_from (map cell_of inside) 0) (take-length p)
+    ∙ ap (λ (cells : List Cell). way_from cells 0 p) view

@@ -183,6 +183,7 @@ impl MemTree {
         ensures ok { OnOk result ((v : Node) → node_of (cell_of slot) ≡ Some v → tree_of self.new ≡ with_node (tree_of self.old) path.now v) }
         ensures err { OnErr result (tree_of self.new ≡ tree_of self.old) }
     {
+        // The root is not vacant, so there is a last name.
         let Some(name) = path.last() else {
             return Err(OutOfMemory);
         };
@@ -320,6 +321,7 @@ impl MemTree {
         requires { IsTaken self.old path.now parent child }
         ensures { tree_of self.new ≡ without (tree_of self.old) path.now }
     {
+        // The root is not taken out, so there is a last name.
         let Some(name) = path.last() else {
             return;
         };
@@ -364,6 +366,7 @@ impl MemTree {
         ensures ok { OnOk result (tree_of self.new ≡ moved (tree_of self.old) from.now to.now) }
         ensures err { OnErr result (self.new ≡ self.old) }
     {
+        // Neither path is the root, so each has a last name.
         let Some(old_name) = from.last() else {
             return Err(OutOfMemory);
         };
@@ -453,7 +456,7 @@ impl MemTree {
 #[cfg(test)]
 impl MemTree {
     // How many slots the arena has.
-    pub fn slot_count(&self) -> usize {
+    pub(crate) fn slot_count(&self) -> usize {
         self.slots.len()
     }
 }

@@ -1,4 +1,4 @@
-use Rattle.std.proofs.Common.{sym, true, ◌≡◌, ◌∙◌, ap, subst, map, Some, Option, List}
+use Rattle.std.proofs.Common.{sym, ◌≡◌, ◌∙◌, ap, subst, map, Some, Option, List}
 use Rattle.std.proofs.lemmas.Result.{on_ok_weaker, on_err_weaker}
 use Rattle.dc_attrs.specs.Trees.{Node}
 use Rattle.dc_tree.specs.Arena.{cell_of, Cell, node_of, tree_of}
