@@ -49,7 +49,7 @@ impl Model for MemTree {
 }
 
 impl MemTree {
-    /// The root alone, with the attributes of a new directory.
+    /// The root alone, with the attributes of a new directory. `OutOfMemory` is the one error.
     pub fn new(alloc: Global) -> Result<MemTree, OutOfMemory>
         ensures { IfOk result (λ t. tree_of t ≡ with_node (λ _. None) [] (Dir default_dir)) }
     {
@@ -150,7 +150,12 @@ impl MemTree {
     }
 
     /// The names of what stands directly under a directory, strictly ascending by bytes, `.snapshot` too (HDFS, `listStatus`).
-    /// It refuses `Missing` and `NotDir`, the latter also for a file itself.
+    ///
+    /// # Errors
+    ///
+    /// - `Missing`, where the path or a prefix is absent;
+    /// - `NotDir`, where the path or a prefix is a file;
+    /// - `Memory`, which may come in the place of any answer.
     pub fn children(&self, alloc: Global, path: &Path) -> Result<List<Name>, TreeError>
         ensures ok { IfOk result (λ names. AreChildren (tree_of self.now) path.now names) }
         ensures answers { Refuses (refused_in (seen (tree_of self.now) path.now)) result }
@@ -191,7 +196,14 @@ impl MemTree {
     }
 
     /// Makes a directory with nothing in it (POSIX.1, `mkdir`). The attributes must fit a directory.
-    /// It refuses `Exists`, then `Missing` or `NotDir` of the parent; the tree is as it was after any error.
+    ///
+    /// # Errors
+    ///
+    /// The first of these, in this order; each leaves the tree as it was:
+    ///
+    /// - `Exists`, where something stands at the path;
+    /// - `Missing` or `NotDir`, where the parent is no directory;
+    /// - `Memory`, which may come in the place of any answer.
     pub fn make_dir(&mut self, alloc: Global, path: &Path, attrs: Attrs) -> Result<(), TreeError>
         requires fits { IsTrue (fits_dir attrs) }
         ensures ok { OnOk result (tree_of self.new ≡ with_node (tree_of self.old) path.now (Dir attrs)) }
@@ -220,8 +232,15 @@ impl MemTree {
         put_slot(&mut self.slots, at, Slot::File { bytes, attrs });
     }
 
-    /// Makes a file, or replaces one. The attributes must fit a file.
-    /// It refuses `IsDir`, then `Missing` or `NotDir` of the parent; the tree is as it was after any error.
+    /// Makes a file, or replaces one (HDFS, `create`). The attributes must fit a file.
+    ///
+    /// # Errors
+    ///
+    /// The first of these, in this order; each leaves the tree as it was:
+    ///
+    /// - `IsDir`, where a directory stands at the path;
+    /// - `Missing` or `NotDir`, where the parent is no directory;
+    /// - `Memory`, which may come in the place of any answer.
     pub fn put(
         &mut self,
         alloc: Global,
@@ -262,7 +281,15 @@ impl MemTree {
     }
 
     /// Adds bytes at the end of a file (HDFS, `append`).
-    /// It refuses `Missing`, `NotDir` and `IsDir`; the tree is as it was after any error.
+    ///
+    /// # Errors
+    ///
+    /// Each leaves the tree as it was:
+    ///
+    /// - `Missing`, where the path or a prefix is absent;
+    /// - `NotDir`, where a proper prefix is a file;
+    /// - `IsDir`, where a directory stands at the path;
+    /// - `Memory`, which may come in the place of any answer.
     pub fn extend(&mut self, alloc: Global, path: &Path, bytes: &[u8]) -> Result<(), TreeError>
         ensures ok { OnOk result (tree_of self.new ≡ updated (tree_of self.old) path.now (appended bytes.now)) }
         ensures err { OnErr result (tree_of self.new ≡ tree_of self.old) }
@@ -292,8 +319,15 @@ impl MemTree {
         set_attrs_at(&mut self.slots, at, attrs);
     }
 
-    /// Sets the attributes of what stands at a path (HDFS, `setPermission` and the like). They must fit what stands there.
-    /// It refuses `Missing` and `NotDir`, and takes no memory.
+    /// Sets the attributes of what stands at a path (HDFS, `setPermission` and the like). They must fit what stands there,
+    /// if anything does. It takes no memory.
+    ///
+    /// # Errors
+    ///
+    /// Each leaves the tree as it was:
+    ///
+    /// - `Missing`, where the path or a prefix is absent;
+    /// - `NotDir`, where a proper prefix is a file.
     pub fn set_attrs(&mut self, path: &Path, attrs: Attrs) -> Result<(), TreeError>
         requires fits { IsTrue (fits_at (tree_of self.old path.now) attrs) }
         ensures ok { OnOk result (tree_of self.new ≡ updated (tree_of self.old) path.now (with_attrs attrs)) }
@@ -330,8 +364,15 @@ impl MemTree {
         drain(self.alloc, &mut self.slots, &mut self.free, child);
     }
 
-    /// Removes what stands at a path, with all under it (HDFS, `delete`).
-    /// It refuses `Root`, `Missing` and `NotDir`, and takes no memory.
+    /// Removes what stands at a path, with all under it (HDFS, `delete`). It takes no memory.
+    ///
+    /// # Errors
+    ///
+    /// Each leaves the tree as it was:
+    ///
+    /// - `Root`, where the path is the root;
+    /// - `Missing`, where the path or a prefix is absent;
+    /// - `NotDir`, where a proper prefix is a file.
     pub fn remove(&mut self, path: &Path) -> Result<(), TreeError>
         ensures ok { OnOk result (tree_of self.new ≡ without (tree_of self.old) path.now) }
         ensures err { OnErr result (tree_of self.new ≡ tree_of self.old) }
@@ -380,9 +421,17 @@ impl MemTree {
     }
 
     /// Moves what stands at a path, with all under it, to a path at which nothing stands (HDFS, `rename`).
-    /// It refuses, in this order: `Root` where either path is the root; `Missing` or `NotDir` of `from`; `Exists` at `to`;
-    /// `IntoItself` where `from` is a prefix of `to`; `Missing` or `NotDir` of the parent of `to`.
-    /// The tree is as it was after any error.
+    ///
+    /// # Errors
+    ///
+    /// The first of these, in this order; each leaves the tree as it was:
+    ///
+    /// - `Root`, where either path is the root;
+    /// - `Missing` or `NotDir`, where nothing stands at `from`;
+    /// - `Exists`, where something stands at `to`;
+    /// - `IntoItself`, where `from` is a prefix of `to`;
+    /// - `Missing` or `NotDir`, where the parent of `to` is no directory;
+    /// - `Memory`, which may come in the place of any answer.
     pub fn rename(&mut self, alloc: Global, from: &Path, to: &Path) -> Result<(), TreeError>
         ensures ok { OnOk result (tree_of self.new ≡ moved (tree_of self.old) from.now to.now) }
         ensures err { OnErr result (tree_of self.new ≡ tree_of self.old) }
@@ -440,7 +489,7 @@ impl MemTree {
         }
     }
 
-    /// An equal tree.
+    /// An equal tree. `OutOfMemory` is the one error.
     pub fn copy(&self, alloc: Global) -> Result<MemTree, OutOfMemory>
         ensures { IfOk result (λ t. tree_of t ≡ tree_of self.now) }
     {
