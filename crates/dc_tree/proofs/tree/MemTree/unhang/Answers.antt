@@ -1,0 +1,26 @@
+use Rattle.std.proofs.Common.{◌∙◌, ap, subst, ℕ, map, None, Option, List}
+use Rattle.dc_attrs.specs.Trees.{Node}
+use Rattle.dc_tree.specs.Arena.{cell_of, Cell, node}
+use Rattle.dc_tree.specs.Edits.{Links}
+use Rattle.dc_tree.proofs.Cells.{within_some}
+use Rattle.dc_tree.proofs.Steps.{unhung_arena, unhung_tree}
+use Rattle.dc_tree.proofs.tree.MemTree.unhang.Goals as goal
+
+pub dismiss-requires : goal.dismiss-requires
+dismiss-requires c =
+    let t = c.requires.there in
+    within_some c.cut_link.new.slots.items c.args.child t.0 (ap (λ (n : ℕ → Option Node). n c.args.child) c.cut_link.ensures.nodes ∙ ap (λ (cells : List Cell). node cells c.args.child) c.self.view_is ∙ t.1)
+
+pub invariant_of-self : goal.invariant_of-self
+invariant_of-self c =
+    let one : List Cell = map cell_of c.cut_link.new.slots.items in
+    let two : List Cell = map cell_of c.dismiss.new.slots.items in
+    let l = subst (λ (cells : List Cell). Links cells c.args.parent c.in-Some.name.now None one) c.self.view_is c.cut_link.ensures in
+    c.drain.ensures.arena (unhung_arena c.args.self.now one two c.args.path.now c.args.parent c.args.child c.in-Some.name.now c.requires c.in-Some.ensures l c.dismiss.ensures.nodes)
+
+pub returns : goal.returns
+returns c =
+    let one : List Cell = map cell_of c.cut_link.new.slots.items in
+    let two : List Cell = map cell_of c.dismiss.new.slots.items in
+    let l = subst (λ (cells : List Cell). Links cells c.args.parent c.in-Some.name.now None one) c.self.view_is c.cut_link.ensures in
+    c.drain.ensures.tree (unhung_arena c.args.self.now one two c.args.path.now c.args.parent c.args.child c.in-Some.name.now c.requires c.in-Some.ensures l c.dismiss.ensures.nodes) ∙ unhung_tree c.args.self.now one two c.args.path.now c.args.parent c.args.child c.in-Some.name.now c.requires c.in-Some.ensures l c.dismiss.ensures.nodes

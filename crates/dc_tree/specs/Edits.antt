@@ -1,0 +1,67 @@
+-- What a step changes in an arena.
+use Rattle.std.specs.Prelude.{◌≡◌, ℕ, List, Option, Some, None}
+use Rattle.dc_attrs.specs.Trees.{Node}
+use Rattle.dc_tree.specs.declared.arena.Popped.{Popped}
+use Rattle.dc_tree.specs.declared.arena.Popped.TheVariants as popped
+use Rattle.dc_tree.specs.Arena.{Cell, cell_at, node_of, links_of, find, link, node, tree_of, IsArena}
+
+-- h is g with a link set
+pub record Relinked (g h : ℕ → List ℕ → Option ℕ) (at : ℕ) (name : List ℕ) (to : Option ℕ) : Type 0 where
+  pub here : h at name ≡ to
+  pub others : (k : ℕ) (x : List ℕ) → (k ≡ at → x ≡ name → ⊥) → h k x ≡ g k x
+
+-- m is n with this at one cell
+pub record Renoded (n m : ℕ → Option Node) (at : ℕ) (to : Option Node) : Type 0 where
+  pub here : m at ≡ to
+  pub others : (k : ℕ) → (k ≡ at → ⊥) → m k ≡ n k
+
+-- a link is set in the cells
+pub record Links (old : List Cell) (at : ℕ) (name : List ℕ) (to : Option ℕ) (new : List Cell) : Type 0 where
+  pub set : Relinked (link old) (link new) at name to
+  pub nodes : node new ≡ node old
+
+-- a node is set in the cells
+pub record Nodes (old : List Cell) (at : ℕ) (to : Option Node) (new : List Cell) : Type 0 where
+  pub links : link new ≡ link old
+  pub put : Renoded (node old) (node new) at to
+
+-- one cell is another
+pub record Puts (old : List Cell) (at : ℕ) (cell : Cell) (new : List Cell) : Type 0 where
+  pub here : cell_at new at ≡ cell
+  pub others : (k : ℕ) → (k ≡ at → ⊥) → cell_at new k ≡ cell_at old k
+
+-- a new cell is hung at a link
+pub record Adds (old : List Cell) (at : ℕ) (name : List ℕ) (to : Option Node) (new : List Cell) : Type 0 where
+  pub cell : ℕ
+  pub nothing : node old cell ≡ None
+  pub bare : (x : List ℕ) → link old cell x ≡ None
+  pub set : Relinked (link old) (link new) at name (Some cell)
+  pub put : Renoded (node old) (node new) cell to
+
+-- a link is set in one cell
+pub record Child (old : Cell) (name : List ℕ) (to : Option ℕ) (new : Cell) : Type 0 where
+  pub node : node_of new ≡ node_of old
+  pub here : find name (links_of new) ≡ to
+  pub others : (x : List ℕ) → (x ≡ name → ⊥) → find x (links_of new) ≡ find x (links_of old)
+
+-- a cell is edited, with the links that it had
+pub record Edit (old : Cell) (to : Option Node) (new : Cell) : Type 0 where
+  pub node : node_of new ≡ to
+  pub links : links_of new ≡ links_of old
+
+-- what is taken out of a cell that was given up: a link with what it led to, or nothing
+abbrev pub Pops : Cell → Popped → Cell → Type 0
+Pops old (popped.Child c) new = (x : List ℕ) × (find x (links_of old) ≡ Some c) × (node_of old ≡ None) × Child old x None new
+Pops old (popped.Bare next) new = new ≡ old
+Pops old popped.Kept new = new ≡ old
+
+-- the same in the cells
+abbrev pub PopsAt : List Cell → ℕ → Popped → List Cell → Type 0
+PopsAt old at (popped.Child c) new = (x : List ℕ) × (link old at x ≡ Some c) × (node old at ≡ None) × Links old at x None new
+PopsAt old at (popped.Bare next) new = new ≡ old
+PopsAt old at popped.Kept new = new ≡ old
+
+-- an arena stays one, and the same tree
+pub record Keeps (old new : List Cell) : Type 0 where
+  pub arena : IsArena old → IsArena new
+  pub tree : IsArena old → tree_of new ≡ tree_of old

@@ -1,0 +1,5 @@
+pub mod Fitting
+pub mod Children
+pub mod Arena
+pub mod Places
+pub mod Edits
