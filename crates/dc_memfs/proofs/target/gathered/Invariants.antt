@@ -1,0 +1,7 @@
+use Rattle.std.proofs.Common.{◌≡◌, Some, map}
+use Rattle.dc_memfs.specs.declared.desk.MemTemp.{MemTemp}
+use Rattle.dc_fs.specs.Temporaries.{all_told}
+use Rattle.dc_memfs.proofs.target.gathered.Given as goal
+
+abbrev pub invariant-loop-part : goal.invariant-loop-part
+invariant-loop-part l = all_told (map (λ (temp : MemTemp). Some temp.bytes.items) l.yielded) ≡ Some l.bytes.items
