@@ -4,3 +4,7 @@ pub mod ListingLemmas
 pub mod OutputLemmas
 pub mod PartLemmas
 pub mod EffectLemmas
+pub mod SurveyLemmas
+pub mod ResultLemmas
+pub mod RunLemmas
+pub mod WordLemmas

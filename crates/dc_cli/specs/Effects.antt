@@ -54,3 +54,7 @@ pub record AreCounts (listing : Listing) (target : Names) (counts : Counts) : Ty
   pub folders : List Names
   pub made : AreFolders listing folders
   pub counted : counts ≡ counts_of effects folders
+
+-- the counters of a run that did not commit
+abbrev pub none_counted : Counts
+none_counted = record { copied = 0; dirs = 0; skipped = 0; failed = 0; bytes_copied = 0; bytes_skipped = 0 }

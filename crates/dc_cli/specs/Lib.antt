@@ -9,3 +9,6 @@ pub mod Steps
 pub mod Numbers
 pub mod Output
 pub mod Pieces
+pub mod Words
+pub mod Checks
+pub mod Runs

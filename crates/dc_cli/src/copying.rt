@@ -220,6 +220,7 @@ pub fn copy_files<S: Store, D: Desk>(
     requires { 0 < length buffer.old }
     ensures tree { S.tree source.new ≡ S.tree source.old }
     ensures rest { S.rest source.new ≡ S.rest source.old }
+    ensures few { IfOk result (λ files. length files.items ≤ length items.now) }
     ensures made { IfOk result (λ files. counted (D.made desk.old) (length files.items) ≤ D.made desk.new) }
     ensures cause { HasCause (S.faults source.old) (S.faults source.new) result CopyError.SourceFault }
     ensures desk_cause { HasCause (D.faults desk.old) (D.faults desk.new) result CopyError.DeskFault }

@@ -3,11 +3,16 @@
 
 mod commit;
 mod copying;
+mod engine;
 mod listing;
 mod outcome;
 mod output;
 mod stdout;
+mod survey;
+mod top;
+mod words;
 
 pub use outcome::{Answer, BadTarget, Counts, OptionError, Outcome, Phase, TooManyOf};
 pub use output::{print, status};
 pub use stdout::StdSink;
+pub use top::distcp;

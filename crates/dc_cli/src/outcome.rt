@@ -2,6 +2,7 @@
 #![tactic(auto)]
 
 use dc_path::{Name, OutOfMemory, Path, Text};
+use std::alloc::AllocError;
 
 /// Why words are no options, in the order in which they are read.
 #[derive(Drop)]
@@ -93,6 +94,18 @@ pub struct Counts {
     pub bytes_skipped: u128,
 }
 
+impl Counts {
+    /// The counters of a run that did not commit.
+    pub const NONE: Counts = Counts {
+        copied: 0,
+        dirs: 0,
+        skipped: 0,
+        failed: 0,
+        bytes_copied: 0,
+        bytes_skipped: 0,
+    };
+}
+
 /// What the top call answers.
 #[derive(Drop)]
 pub struct Answer {
@@ -114,5 +127,27 @@ impl From<OutOfMemory> for OptionError {
 
     fn from(_lack: OutOfMemory) -> OptionError {
         OptionError::Memory
+    }
+}
+
+impl From<OutOfMemory> for Outcome {
+    ghost use Rattle.std.specs.Prelude.{◌≡◌};
+    ghost use Rattle.dc_cli.specs.declared.outcome.Outcome.TheVariants.{Memory};
+
+    ghost from_gives = { λ _ e. e ≡ Memory };
+
+    fn from(_lack: OutOfMemory) -> Outcome {
+        Outcome::Memory
+    }
+}
+
+impl From<AllocError> for Outcome {
+    ghost use Rattle.std.specs.Prelude.{◌≡◌};
+    ghost use Rattle.dc_cli.specs.declared.outcome.Outcome.TheVariants.{Memory};
+
+    ghost from_gives = { λ _ e. e ≡ Memory };
+
+    fn from(_lack: AllocError) -> Outcome {
+        Outcome::Memory
     }
 }

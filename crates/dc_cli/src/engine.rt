@@ -1,0 +1,204 @@
+//! A run: what is copied from the source directory to the target, and what the target is left as.
+#![tactic(auto)]
+
+ghost use Rattle.std.specs.Prelude.{◌≡◌, ◌≤◌, false, map, filter, length, IfOk, IfErr, IfSome, OnOk};
+ghost use Rattle.std.specs.List.{sum_by};
+ghost use Rattle.std.specs.Option.{is_some};
+ghost use Rattle.dc_attrs.specs.Trees.{IsTree, seen};
+ghost use Rattle.dc_cli.specs.Checks.{IsAllowed, is_committed};
+ghost use Rattle.dc_cli.specs.Effects.{GainsEffects, AreCounts};
+ghost use Rattle.dc_cli.specs.Listed.{listed};
+ghost use Rattle.dc_cli.specs.Phases.{contents_of, counts_from, is_file_item, is_dir_item, length_of};
+ghost use Rattle.dc_cli.specs.Ready.{content_in};
+ghost use Rattle.dc_cli.specs.Result.{IsResult};
+ghost use Rattle.dc_cli.specs.Runs.{outcome_of_copy, outcome_of_step, Finishes};
+
+use crate::commit::{StepError, land_all, make_dirs};
+use crate::copying::{CopyError, Ready, copy_files};
+use crate::listing::Item;
+use crate::survey::survey;
+use crate::{Counts, Outcome, Phase};
+use dc_fs::{Desk, Store, Target, WriteError};
+use dc_path::Path;
+use std::alloc::Global;
+
+/// The bytes that are copied at a time.
+const BUFFER_SIZE: usize = 8192;
+
+// How a copy's refusal ends a run.
+fn uncopied(error: CopyError) -> Outcome
+    ensures outcome { result ≡ outcome_of_copy error }
+    ensures stops { is_committed result ≡ false }
+{
+    match error {
+        CopyError::SourceFault => Outcome::SourceFault,
+        CopyError::DeskFault => Outcome::TargetFault {
+            phase: Phase::Copy,
+            done: 0,
+        },
+        CopyError::Changed { path } => Outcome::Changed { path },
+        CopyError::Memory => Outcome::Memory,
+    }
+}
+
+// How a refusal in a part of the commit ends a run.
+fn unfinished(phase: Phase, error: StepError) -> Outcome
+    ensures outcome { result ≡ outcome_of_step phase error }
+    ensures stops { is_committed result ≡ false }
+{
+    match error {
+        StepError::Fault { done } => Outcome::TargetFault { phase, done },
+        StepError::Changed { path } => Outcome::Changed { path },
+        StepError::Memory { .. } => Outcome::Memory,
+    }
+}
+
+/// Copies the listed files to temporaries of the target.
+fn settle<S: Store, T: Target>(
+    alloc: Global,
+    source: &mut S,
+    target: &mut T,
+    root: &Path,
+    items: &[Item],
+) -> Result<Vec<Ready<<T::Desk as Desk>::Temp>>, Outcome>
+    requires { length items.now ≤ 1048576 }
+    ensures tree { S.tree source.new ≡ S.tree source.old }
+    ensures rest { S.rest source.new ≡ S.rest source.old }
+    ensures target_tree { T.tree target.new ≡ T.tree target.old }
+    ensures landed { (T.rest target.new).landed ≡ (T.rest target.old).landed }
+    ensures few { IfOk result (λ files. length files.items ≤ 1048576) }
+    ensures counted { IfOk result (λ files. length files.items ≤ (T.rest target.new).scratch) }
+    ensures copied { IfOk result (λ files. IfSome (S.tree source.old) (λ s. map (content_in T.Desk.Temp.content) files.items ≡ contents_of (is_some (T.tree target.old)) s root.now items.now)) }
+    ensures stops { IfErr result (λ e. is_committed e ≡ false) }
+{
+    let mut buffer = vec![in alloc; 0u8; BUFFER_SIZE]?;
+    let mut desk = match target.open_desk(alloc) {
+        Ok(desk) => desk,
+        Err(WriteError::Memory) => return Err(Outcome::Memory),
+        Err(_) => {
+            return Err(Outcome::TargetFault {
+                phase: Phase::Copy,
+                done: 0,
+            });
+        }
+    };
+    let copied = copy_files(alloc, source, &mut desk, root, items, &mut buffer);
+    target.rejoin_desk(desk);
+    match copied {
+        Ok(files) => Ok(files),
+        Err(error) => Err(uncopied(error)),
+    }
+}
+
+/// Makes the directories, lands the files, and sweeps.
+fn finish<T: Target>(
+    alloc: Global,
+    target: &mut T,
+    place: &Path,
+    items: &[Item],
+    files: Vec<Ready<<T::Desk as Desk>::Temp>>,
+) -> Result<(), Outcome>
+    requires few_items { length items.now ≤ 1048576 }
+    requires few { length files.items ≤ 1048576 }
+    requires counted { length files.items ≤ (T.rest target.old).scratch }
+    ensures finished { OnOk result (Finishes place.now items.now (map (content_in T.Desk.Temp.content) files.items) (T.tree target.old) (T.tree target.new) (T.rest target.old) (T.rest target.new)) }
+    ensures stops { IfErr result (λ e. is_committed e ≡ false) }
+{
+    match make_dirs(alloc, target, place, items) {
+        Ok(()) => {}
+        Err(error) => return Err(unfinished(Phase::Dirs, error)),
+    }
+    match land_all(alloc, target, place, files) {
+        Ok(()) => {}
+        Err(error) => return Err(unfinished(Phase::Land, error)),
+    }
+    match target.sweep() {
+        Ok(()) => Ok(()),
+        Err(_) => Err(Outcome::TargetFault {
+            phase: Phase::Sweep,
+            done: 0,
+        }),
+    }
+}
+
+// The bytes of the files of a listing.
+fn total_bytes(items: &[Item]) -> u128
+    requires { length items.now ≤ 1048576 }
+    ensures { result ≡ sum_by length_of (filter is_file_item items.now) }
+{
+    let mut total = 0u128;
+    for item in items {
+        if item.dir {
+            continue;
+        }
+        total += u128::from(item.length);
+    }
+    total
+}
+
+// How many files a listing has.
+fn count_files(items: &[Item]) -> u64
+    ensures { result ≡ length (filter is_file_item items.now) }
+{
+    items.iter().filter(|item| !item.dir).count() as u64
+}
+
+// How many directories a listing has.
+fn count_dirs(items: &[Item]) -> u64
+    ensures { result ≡ length (filter is_dir_item items.now) }
+{
+    items.iter().filter(|item| item.dir).count() as u64
+}
+
+// The counters of a run that lands all files of a listing.
+fn count_items(items: &[Item]) -> Counts
+    requires { length items.now ≤ 1048576 }
+    ensures { result ≡ counts_from items.now }
+{
+    Counts {
+        copied: count_files(items),
+        dirs: count_dirs(items),
+        skipped: 0,
+        failed: 0,
+        bytes_copied: total_bytes(items),
+        bytes_skipped: 0,
+    }
+}
+
+// Removes what is left of temporaries after a refusal, which stays the answer.
+fn give_up<T: Target>(target: &mut T, outcome: Outcome) -> Outcome
+    ensures { result ≡ outcome }
+{
+    let _ = target.sweep();
+    outcome
+}
+
+/// Copies what stands under the source directory to the target's path, and answers the counters.
+///
+/// What an outcome that does not commit leaves: before the target is changed, its tree; after that temporaries are swept.
+pub fn run<S: Store, T: Target>(
+    alloc: Global,
+    source: &mut S,
+    target: &mut T,
+    root: &Path,
+    place: &Path,
+) -> Result<Counts, Outcome>
+    ensures tree { S.tree source.new ≡ S.tree source.old }
+    ensures rest { S.rest source.new ≡ S.rest source.old }
+    ensures stops { IfErr result (λ e. is_committed e ≡ false) }
+    ensures swept { OnOk result ((T.rest target.new).scratch ≡ 0) }
+    ensures result { OnOk result (IfSome (S.tree source.old) (λ s. IsTree s → IfSome (T.tree target.old) (λ t. IsTree t → IsResult (listed s root.now) t place.now (T.tree target.new)))) }
+    ensures landed { OnOk result (IfSome (S.tree source.old) (λ s. IsTree s → IfSome (T.tree target.old) (λ t. IsTree t → GainsEffects (listed s root.now) place.now (T.rest target.old).landed (T.rest target.new).landed))) }
+    ensures counts { IfOk result (λ counts. IfSome (S.tree source.old) (λ s. IsTree s → AreCounts (listed s root.now) place.now counts)) }
+    ensures allowed { OnOk result (IfSome (S.tree source.old) (λ s. IfSome (T.tree target.old) (λ t. IsAllowed (seen s root.now) (seen t place.now)))) }
+{
+    let items = survey(alloc, source, target, root, place)?;
+    let files = match settle(alloc, source, target, root, items.as_slice()) {
+        Ok(files) => files,
+        Err(outcome) => return Err(give_up(target, outcome)),
+    };
+    match finish(alloc, target, place, items.as_slice(), files) {
+        Ok(()) => Ok(count_items(items.as_slice())),
+        Err(outcome) => Err(give_up(target, outcome)),
+    }
+}

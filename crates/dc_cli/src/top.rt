@@ -1,0 +1,109 @@
+//! The top call.
+#![tactic(auto)]
+
+ghost use Rattle.std.specs.Prelude.{◌≡◌, ◌≤◌, ℕ, ◌++◌, true, false, List, [], ◌∷◌, Ok, IfOk, IfErr, IfSome, OnOk};
+ghost use Rattle.std.specs.Option.{option_map};
+ghost use Rattle.dc_path.specs.Paths.{Names};
+ghost use Rattle.dc_attrs.specs.Trees.{IsTree, seen};
+ghost use Rattle.dc_fs.specs.Causes.{Rose};
+ghost use Rattle.dc_fs.specs.Temporaries.{WriteStops};
+ghost use Rattle.dc_cli.specs.Checks.{IsAllowed, is_committed};
+ghost use Rattle.dc_cli.specs.Effects.{GainsEffects, AreCounts, none_counted};
+ghost use Rattle.dc_cli.specs.Listed.{listed};
+ghost use Rattle.dc_cli.specs.Output.{lines};
+ghost use Rattle.dc_cli.specs.Result.{IsResult};
+ghost use Rattle.dc_cli.specs.Runs.{ended_as, counted_as};
+ghost use Rattle.dc_cli.specs.Words.{Asks};
+
+use crate::engine::run;
+use crate::words::read_options;
+use crate::{Answer, Counts, OptionError, Outcome, print};
+use dc_fs::{Sink, Source, Store, Target};
+use dc_path::Text;
+use std::alloc::Global;
+use std::thread::Threads;
+
+// Runs what the words ask for.
+fn run_words<S: Store, T: Target>(
+    alloc: Global,
+    words: &[Text],
+    source: &mut S,
+    target: &mut T,
+) -> Result<Counts, Outcome>
+    ensures source { S.tree source.new ≡ S.tree source.old }
+    ensures stops { IfErr result (λ e. is_committed e ≡ false) }
+    ensures swept { OnOk result ((T.rest target.new).scratch ≡ 0) }
+    ensures asked { OnOk result ((root : Names) × (place : Names) × Asks words.now root place) }
+    ensures result { OnOk result ((root place : Names) → Asks words.now root place → IfSome (S.tree source.old) (λ s. IsTree s → IfSome (T.tree target.old) (λ t. IsTree t → IsResult (listed s root) t place (T.tree target.new)))) }
+    ensures landed { OnOk result ((root place : Names) → Asks words.now root place → IfSome (S.tree source.old) (λ s. IsTree s → IfSome (T.tree target.old) (λ t. IsTree t → GainsEffects (listed s root) place (T.rest target.old).landed (T.rest target.new).landed))) }
+    ensures counts { IfOk result (λ counts. (root place : Names) → Asks words.now root place → IfSome (S.tree source.old) (λ s. IsTree s → AreCounts (listed s root) place counts)) }
+    ensures allowed { OnOk result ((root place : Names) → Asks words.now root place → IfSome (S.tree source.old) (λ s. IfSome (T.tree target.old) (λ t. IsAllowed (seen s root) (seen t place)))) }
+{
+    let paths = match read_options(alloc, words) {
+        Ok(paths) => paths,
+        Err(OptionError::Memory) => return Err(Outcome::Memory),
+        Err(error) => return Err(Outcome::BadOption { error }),
+    };
+    if paths.len() > 2 {
+        return Err(Outcome::Unbuilt);
+    }
+    let (Some(root), Some(place)) = (paths.get(0), paths.get(1)) else {
+        return Err(Outcome::Unbuilt);
+    };
+    run(alloc, source, target, root, place)
+}
+
+// The answer of a run that is not printed yet.
+fn unprinted(ran: Result<Counts, Outcome>) -> Answer
+    ensures outcome { result.outcome ≡ ended_as ran }
+    ensures counts { result.counts ≡ counted_as ran }
+    ensures moves { result.moves ≡ 0 }
+{
+    let (outcome, counts) = match ran {
+        Ok(counts) => (Outcome::Committed, counts),
+        Err(outcome) => (outcome, Counts::NONE),
+    };
+    Answer {
+        outcome,
+        counts,
+        moves: 0,
+        printed: false,
+    }
+}
+
+/// Copies what the words ask for from the source to the target, and prints what was done to the sink.
+///
+/// The words are two paths: a directory of the source, and a path of the target at which nothing stands and which the
+/// directory is copied to. The runtime's threads are not used yet.
+pub fn distcp<R: Threads + Sync, S: Source, T: Target, O: Sink>(
+    _rt: &R,
+    alloc: Global,
+    words: &[Text],
+    source: &mut S,
+    target: &mut T,
+    out: &mut O,
+) -> Answer
+    ensures source { S.tree source.new ≡ S.tree source.old }
+
+    // A run that commits was asked for by two paths, a directory and a place where nothing stands,
+    ensures asked { result.outcome ≡ Outcome.Committed → (root : Names) × (place : Names) × Asks words.now root place }
+    ensures allowed { result.outcome ≡ Outcome.Committed → (root place : Names) → Asks words.now root place → IfSome (S.tree source.old) (λ s. IfSome (T.tree target.old) (λ t. IsAllowed (seen s root) (seen t place))) }
+    // and leaves exactly the result, each listed file landed once, and no temporary.
+    ensures result { result.outcome ≡ Outcome.Committed → (root place : Names) → Asks words.now root place → IfSome (S.tree source.old) (λ s. IsTree s → IfSome (T.tree target.old) (λ t. IsTree t → IsResult (listed s root) t place (T.tree target.new))) }
+    ensures landed { result.outcome ≡ Outcome.Committed → (root place : Names) → Asks words.now root place → IfSome (S.tree source.old) (λ s. IsTree s → IfSome (T.tree target.old) (λ t. IsTree t → GainsEffects (listed s root) place (T.rest target.old).landed (T.rest target.new).landed)) }
+    ensures swept { result.outcome ≡ Outcome.Committed → (T.rest target.new).scratch ≡ 0 }
+
+    ensures counts { result.outcome ≡ Outcome.Committed → (root place : Names) → Asks words.now root place → IfSome (S.tree source.old) (λ s. IsTree s → AreCounts (listed s root) place result.counts) }
+    ensures no_counts { is_committed result.outcome ≡ false → result.counts ≡ none_counted }
+    ensures moves { result.moves ≡ 0 }
+
+    ensures printed { result.printed ≡ true → O.bytes out.new ≡ option_map (λ old. old ++ lines result.outcome result.counts) (O.bytes out.old) }
+    ensures stopped { result.printed ≡ false → WriteStops (lines result.outcome result.counts) (O.bytes out.old) (O.bytes out.new) }
+    ensures later { O.faults out.old ≤ O.faults out.new }
+    ensures cause { result.printed ≡ false → Rose (O.faults out.old) (O.faults out.new) }
+{
+    let ran = run_words(alloc, words, source, target);
+    let mut answer = unprinted(ran);
+    answer.printed = print(&answer, out);
+    answer
+}
