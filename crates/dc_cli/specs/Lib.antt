@@ -4,3 +4,9 @@ pub mod Walks
 pub mod Walking
 pub mod Result
 pub mod Effects
+pub mod Phases
+pub mod Ready
+pub mod Steps
+pub mod Numbers
+pub mod Output
+pub mod Pieces

@@ -3,9 +3,8 @@
 
 ghost use Rattle.std.specs.Prelude.{◌≡◌, ℕ, ◌≤◌, map, length, None, IfOk, IfErr, IfSome, OnOk, OnErr};
 ghost use Rattle.std.specs.Option.{option_map, is_some};
-ghost use Rattle.dc_attrs.specs.Attributes.{default_dir};
 ghost use Rattle.dc_attrs.specs.Refusals.{refused_dir};
-ghost use Rattle.dc_attrs.specs.Trees.{Dir, with_node, updated};
+ghost use Rattle.dc_attrs.specs.Trees.{updated, made};
 ghost use Rattle.dc_fs.specs.Causes.{HasCause, RisesByOne};
 ghost use Rattle.dc_fs.specs.Answers.{WriteAnswers, Changes, refused_land};
 ghost use Rattle.dc_fs.specs.Temporaries.{all_told, landed_by};
@@ -67,7 +66,7 @@ pub trait Target: Store {
     /// Makes a directory with default attributes. It refuses `Exists`, then `Missing` or `NotDir` of the parent.
     /// After a fault the directory is made or not.
     fn make_dir(&mut self, alloc: Global, path: &Path) -> Result<(), WriteError>
-        ensures tree { Changes (λ t. with_node t path.now (Dir default_dir)) (Self.tree self.old) (Self.tree self.new) result }
+        ensures tree { Changes (λ t. updated t path.now made) (Self.tree self.old) (Self.tree self.new) result }
         ensures rest { Self.rest self.new ≡ Self.rest self.old }
         ensures looks { RisesByOne (Self.looks self.old) (Self.looks self.new) }
         ensures cause { HasCause (Self.faults self.old) (Self.faults self.new) result WriteError.Fault }

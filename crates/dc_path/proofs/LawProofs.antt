@@ -1,21 +1,21 @@
 -- The laws of paths.
-use Rattle.std.proofs.Common.{◌≡◌, ℕ, ◌+◌, ◌*◌, ◌<◌, ◌≤◌, Bool, true, false, not, cond, List, [], ◌∷◌, ◌++◌, length, take, drop, refl, ap, sym, subst, ◌∙◌, arith, length-append, append-nil, nat_lt, nat_le, nat_eq, ◌&&◌, Ok, Err, filter, lt-ltb, le-ltb, lit<, eqb, IsTrue, rules, Decides}
-use Rattle.std.specs.List.{list_all, prefix_len, slice_split, All}
-use Rattle.std.specs.Cmp.{IsTotalOrder, first_so, second_so}
-use Rattle.std.specs.Cmp.Lexicographic.{pointwise, pointwise_decides, bytes_decides, lists_total, nat_list_cmp_total}
-use Rattle.std.specs.FinMap.{IsAntisymmetric, nat_cmp-IsAntisymmetric, slice_cmp-IsAntisymmetric}
-use Rattle.std.proofs.lemmas.Grind.{common_steps}
+use Rattle.std.proofs.Common.{◌≡◌, ℕ, true, false, cond, List, [], ◌∷◌, ◌++◌, length, refl, ap, ◌∙◌, arith, append-nil, Ok, Err, filter, le-ltb, eqb, rules}
+use Rattle.std.specs.List.{list_all, slice_split, All}
+use Rattle.std.specs.Cmp.{first_so, second_so}
+use Rattle.std.specs.Cmp.Lexicographic.{lists_total, nat_list_cmp_total}
+use Rattle.std.specs.FinMap.{nat_cmp-IsAntisymmetric, slice_cmp-IsAntisymmetric}
 use Rattle.std.proofs.lemmas.List.Splits.{slice_split_none, slice_split_at}
 use Rattle.std.proofs.lemmas.List.Elements.{All-nil, All-cons}
 use Rattle.dc_path.specs.Names.{is_name, is_plain}
-use Rattle.dc_path.specs.Paths.{joined, text_of, IsPath, path_cmp, cut}
+use Rattle.dc_path.specs.Paths.{joined, IsPath}
 use Rattle.dc_path.proofs.PathLemmas.{append-cut, cut-append}
 use Rattle.dc_path.proofs.OrderLemmas.{path_lt-cmp}
-use Rattle.dc_path.specs.Reading.{path_of, path_from, parts_of, is_filled, within_limits}
+use Rattle.dc_path.specs.Reading.{path_of, is_filled}
 use Rattle.dc_path.specs.Laws.{TextReadsBack, CutIsRest, PathsAreOrdered, LessIsOrder}
 use Rattle.dc_path.proofs.Scanning.{path_of-all}
 use Rattle.dc_path.specs.declared.path.PathError.TheVariants.{TooLong}
 
+-- ---- order and cut
 pub paths_are_ordered : PathsAreOrdered
 paths_are_ordered = (lists_total nat_list_cmp_total, slice_cmp-IsAntisymmetric (slice_cmp-IsAntisymmetric nat_cmp-IsAntisymmetric))
 
@@ -25,9 +25,7 @@ cut_is_rest front path rest = (append-cut front path rest, λ e. rw e (cut-appen
 pub less_is_order : LessIsOrder
 less_is_order p q = path_lt-cmp p q
 
-is_slash : ℕ → Bool
-is_slash = λ byte. eqb byte 47
-
+-- ---- a text of names splits into these names
 plain_byte : (b : ℕ) → is_plain b ≡ true → eqb b 47 ≡ false
 plain_byte b h = search rules
 
@@ -50,11 +48,13 @@ parts-joined x (y ∷ names) h hs =
     slice_split_at (λ byte. eqb byte 47) x 47 (y ++ joined names) (plain_All x (name_plain x h)) refl
     ∙ ap (λ r. x ∷ r) (parts-joined y names (first_so (is_name y) (list_all is_name names) hs) (second_so (is_name y) (list_all is_name names) hs))
 
+-- each name has bytes, so no part is dropped
 filter-named : (names : List (List ℕ)) → list_all is_name names ≡ true → filter is_filled names ≡ names
 filter-named [] h = refl
 filter-named (x ∷ names) h =
     rw (name_filled x (first_so (is_name x) (list_all is_name names) h)) (ap (λ r. x ∷ r) (filter-named names (second_so (is_name x) (list_all is_name names) h)))
 
+-- the parts that are the names of a path are that path
 path_of-named : (names : List (List ℕ)) → IsPath names → path_of names ≡ Ok names
 path_of-named names p = path_of-all names p.named p.few ∙ ap (λ b. cond b (Err TooLong) (Ok names)) (le-ltb 4096 (length (joined names)) p.short)
 
@@ -66,4 +66,5 @@ text_reads_back (x ∷ names) p =
     ap (λ parts. path_of (filter is_filled parts)) (parts-joined x names first others)
     ∙ ap path_of (filter-named (x ∷ names) p.named) ∙ path_of-named (x ∷ names) p
 
+-- the laws that the contract states
 pub ruleset laws = (text_reads_back, cut_is_rest, paths_are_ordered, less_is_order)

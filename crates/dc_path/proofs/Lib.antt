@@ -1,3 +1,4 @@
+-- The modules of the proofs.
 pub mod PathLemmas
 pub mod OrderLemmas
 pub mod FoundLemmas

@@ -1,5 +1,5 @@
 -- The order of names and paths, and lists that ascend.
-use Rattle.std.proofs.Common.{◌≡◌, ℕ, ◌+◌, ◌<◌, ◌≤◌, List, [], ◌∷◌, ◌++◌, length, Bool, true, false, cond, ◌&&◌, ◌||◌, nat_eq, nat_lt, refl, sym, ◌∙◌, ap, subst, arith, zero, suc, map}
+use Rattle.std.proofs.Common.{◌≡◌, ℕ, List, [], ◌∷◌, ◌++◌, true, false, ◌&&◌, ◌||◌, refl, sym, ◌∙◌, ap, arith}
 use Rattle.std.proofs.lemmas.Bool.Decides.{nat_tests}
 use Rattle.std.proofs.lemmas.Cmp.{same_from_slice_cmp}
 use Rattle.std.specs.List.{list_all}
@@ -13,6 +13,7 @@ use Rattle.dc_path.specs.Order.{name_lt, path_lt, is_after, all_below, is_ascend
 use Rattle.dc_path.specs.Paths.{Names, same_path, path_cmp}
 use Rattle.dc_path.proofs.PathLemmas.{name_decides, same_name-refl}
 
+-- ---- the order of names
 pub name_lt-trans : (x y z : List ℕ) → name_lt x y ≡ true → name_lt y z ≡ true → name_lt x z ≡ true
 name_lt-trans [] [] z h k = cc
 name_lt-trans [] (b ∷ y) [] h k = cc
@@ -27,6 +28,7 @@ name_lt-apart [] (b ∷ y) h = refl
 name_lt-apart (a ∷ x) [] h = cc
 name_lt-apart (a ∷ x) (b ∷ y) h = let ih = name_lt-apart x y in grind (arith, nat_tests, ih)
 
+-- ---- the order of paths
 same_true : (x y : List ℕ) → same_name x y ≡ true → x ≡ y
 same_true x y = (name_decides x y).0
 
@@ -51,6 +53,7 @@ path_lt-apart [] (y ∷ q) h = refl
 path_lt-apart (x ∷ p) [] h = cc
 path_lt-apart (x ∷ p) (y ∷ q) h = let ih = path_lt-apart p q in let no = name_lt-apart x y in grind (arith, ih, no)
 
+-- ---- what comes after a whole part of a tree
 pub path_lt-after : (p b : Names) → is_after p b ≡ true → path_lt p b ≡ true
 path_lt-after [] b h = cc
 path_lt-after (x ∷ p) [] h = cc
@@ -70,10 +73,12 @@ path_lt-child [] x = refl
 path_lt-child (z ∷ p) x = let ih = path_lt-child p x in let r = same_name-refl z in grind (arith, ih, r)
 
 -- ---- lists of paths
+-- what is before a path is before all later ones
 pub all_below-later : (paths : List Names) (p b : Names) → path_lt p b ≡ true → all_below paths p ≡ true → all_below paths b ≡ true
 all_below-later [] p b h k = refl
 all_below-later (x ∷ paths) p b h k = let ih = all_below-later paths p b h in let tr = path_lt-trans x p b in grind (arith, ih, tr)
 
+-- a path more at the end of a list
 pub all_below-push : (paths : List Names) (x b : Names) → all_below (paths ++ x ∷ []) b ≡ (all_below paths b && path_lt x b)
 all_below-push [] x b = grind arith
 all_below-push (y ∷ paths) x b = let ih = all_below-push paths x b in grind (arith, ih)
@@ -101,9 +106,11 @@ all_below-push_child paths x n h =
 pub name_lt-cmp : (x y : List ℕ) → name_lt x y ≡ is_lt (slice_cmp nat_cmp x y)
 name_lt-cmp x y = sym (same_from_slice_cmp nat_cmp is_lt name_lt refl (λ _ _. refl) (λ _ _. refl) (λ a b xs ys o h. grind (arith, nat_tests)) x y (slice_cmp nat_cmp x y) refl)
 
+-- names are the same where their comparison ties
 same_name-cmp : (x y : List ℕ) → same_name x y ≡ is_eq (slice_cmp nat_cmp x y)
 same_name-cmp x y = sym (is_eq-slice_cmp x y)
 
+-- one step of the comparison of paths
 more_names : (x y : List ℕ) (xs ys : Names) (o : Ordering) → o ≡ slice_cmp nat_cmp x y →
     MatchOrdering o ((name_lt x y || (same_name x y && path_lt xs ys)) ≡ true) ((name_lt x y || (same_name x y && path_lt xs ys)) ≡ path_lt xs ys) ((name_lt x y || (same_name x y && path_lt xs ys)) ≡ false)
 more_names x y xs ys Less h =

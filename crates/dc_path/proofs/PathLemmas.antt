@@ -10,12 +10,14 @@ use Rattle.std.specs.Cmp.Lexicographic.{pointwise}
 use Rattle.dc_path.specs.Names.{same_name}
 use Rattle.dc_path.specs.Paths.{Names, same_path, cut, is_under, front_of}
 
+-- ---- names and paths that are the same
 pub name_decides : (x y : List ℕ) → Decides (same_name x y) (x ≡ y)
 name_decides = bytes_decides
 
 pub path_decides : (p q : List (List ℕ)) → Decides (same_path p q) (p ≡ q)
 path_decides = pointwise_decides bytes_decides
 
+-- two names are the same, or they are not
 pub data NameCase (x y : List ℕ) : Type 0 where
   same : same_name x y ≡ true → x ≡ y → NameCase x y
   other : same_name x y ≡ false → (x ≡ y → ⊥) → NameCase x y
@@ -30,7 +32,8 @@ name_case x y = name_case_at x y (same_name x y) refl
 pub same_name-refl : (x : List ℕ) → same_name x x ≡ true
 same_name-refl x = (name_decides x x).1 refl
 
--- what is cut from a path after the front
+-- ---- what is cut from a path
+-- what follows a front is cut off
 pub cut-append : (d r : List (List ℕ)) → cut d (d ++ r) ≡ Some r
 cut-append [] r = refl
 cut-append (x ∷ d) r = rw (same_name-refl x) (cut-append d r)
@@ -39,6 +42,7 @@ append-cut_at : (x y : List ℕ) (d q r : List (List ℕ)) → NameCase x y → 
 append-cut_at x y d q r (same e h) ih c = let k : q ≡ d ++ r = ih (sym (ap (λ b. cond b (cut d q) None) e) ∙ c) in cc
 append-cut_at x y d q r (other e h) ih c = let k : cond (same_name x y) (cut d q) None ≡ None = ap (λ b. cond b (cut d q) None) e in cc
 
+-- what is cut from a path, with the front before it, is the path
 pub append-cut : (d q r : List (List ℕ)) → cut d q ≡ Some r → q ≡ d ++ r
 append-cut [] q r e = cc
 append-cut (x ∷ d) [] r e = cc
@@ -48,6 +52,7 @@ append-cut (x ∷ d) (y ∷ q) r e = append-cut_at x y d q r (name_case x y) (ap
 pub cut_more : (d q r : List (List ℕ)) (x : List ℕ) → cut d q ≡ Some r → cut d (q ++ x ∷ []) ≡ Some (r ++ x ∷ [])
 cut_more d q r x e = rw (append-cut d q r e, append_assoc) (cut-append d (r ++ x ∷ []))
 
+-- a front that a name more does not make one, unless the path is that front now
 cut_none_at : (z w : List ℕ) (d q : List (List ℕ)) (x : List ℕ) → NameCase z w → (cut d q ≡ None → (cut d (q ++ x ∷ []) ≡ None) ⊎ (d ≡ q ++ x ∷ [])) → cond (same_name z w) (cut d q) None ≡ None → (cond (same_name z w) (cut d (q ++ x ∷ [])) None ≡ None) ⊎ (z ∷ d ≡ w ∷ (q ++ x ∷ []))
 cut_none_at z w d q x (same e h) ih c =
     elim (ih (sym (ap (λ b. cond b (cut d q) None) e) ∙ c)) [ inl k ↦ inl (ap (λ b. cond b (cut d (q ++ x ∷ [])) None) e ∙ k) | inr k ↦ inr (cc) ]
@@ -63,11 +68,12 @@ cut_none [] q x e = cc
 cut_none (z ∷ d) [] x e = cut_one z x d (name_case z x)
 cut_none (z ∷ d) (w ∷ q) x e = cut_none_at z w d q x (name_case z w) (cut_none d q x) e
 
+-- nothing is cut from the root but the root
 pub cut_of_nil : (p : List (List ℕ)) (x : List ℕ) → cut (p ++ x ∷ []) [] ≡ None
 cut_of_nil [] x = refl
 cut_of_nil (y ∷ p) x = refl
 
--- an induction by the last name
+-- ---- an induction by the last name
 from_front : (P : List (List ℕ) → Type 0) → ((p : List (List ℕ)) (x : List ℕ) → P p → P (p ++ x ∷ [])) → (front rest : List (List ℕ)) → P front → P (front ++ rest)
 from_front P more front [] h = rw (append-nil front) h
 from_front P more front (x ∷ rest) h = subst P (append_assoc front (x ∷ []) rest) (from_front P more (front ++ x ∷ []) rest (more front x h))
@@ -75,6 +81,7 @@ from_front P more front (x ∷ rest) h = subst P (append_assoc front (x ∷ []) 
 pub by_last_name : (P : List (List ℕ) → Type 0) → P [] → ((p : List (List ℕ)) (x : List ℕ) → P p → P (p ++ x ∷ [])) → (p : List (List ℕ)) → P p
 by_last_name P start more p = from_front P more [] p start
 
+-- the root, or a path with a last name
 pub data Last (p : List (List ℕ)) : Type 0 where
   empty : p ≡ [] → Last p
   ended : (front : List (List ℕ)) (x : List ℕ) → p ≡ front ++ x ∷ [] → Last p
@@ -82,6 +89,7 @@ pub data Last (p : List (List ℕ)) : Type 0 where
 pub last_case : (p : List (List ℕ)) → Last p
 last_case = by_last_name Last (empty refl) (λ p x h. ended p x refl)
 
+-- ---- paths by their last name
 pub nil_is_no_end : (p : List (List ℕ)) (x : List ℕ) → [] ≡ p ++ x ∷ [] → ⊥
 nil_is_no_end p x e = let k : length {A = List ℕ} [] ≡ length (p ++ x ∷ []) = ap length e in let l = length-append p (x ∷ []) in omega (arith, k, l)
 
@@ -149,6 +157,7 @@ then_at : (b : Bool) (x : List ℕ) (o w : Option Names) → o ≡ then_cut x w 
 then_at true x o w h = h
 then_at false x o w h = refl
 
+-- what is cut where the front has one name more
 pub cut-child : (front : Names) (x : List ℕ) (q : Names) → cut (front ++ x ∷ []) q ≡ then_cut x (cut front q)
 cut-child [] x [] = refl
 cut-child [] x (y ∷ q) = refl
@@ -160,6 +169,7 @@ under_at : (b c : Bool) (o : Option Names) → is_some o ≡ c → is_some (cond
 under_at true c o e = e
 under_at false c o e = refl
 
+-- the test by what is cut is std's test
 pub is_under-starts_with : (front path : Names) → is_under front path ≡ starts_with (pointwise nat_eq) path front
 is_under-starts_with [] path = refl
 is_under-starts_with (x ∷ front) [] = refl
@@ -191,6 +201,7 @@ take_front : (p : Names) (x : List ℕ) → take (length p) (p ++ x ∷ []) ≡ 
 take_front [] x = refl
 take_front (y ∷ p) x = ap (λ (q : Names). y ∷ q) (take_front p x)
 
+-- the names but the last
 pub front_of-append : (p : Names) (x : List ℕ) → front_of (p ++ x ∷ []) ≡ p
 front_of-append p x =
     let l = length-append p (x ∷ []) in
@@ -206,8 +217,10 @@ ends_at (y ∷ p) x (suc n) l e = ap (λ (q : Names). y ∷ q) (ends_at p x n (o
 get_none : (n : ℕ) (x : List ℕ) → slice_get {X = List ℕ} [] n ≡ Some x → ⊥
 get_none n x e = cc
 
+-- a path is its front and its last name
 pub ends_in : (p : Names) (x : List ℕ) → slice_get p (length p - 1) ≡ Some x → p ≡ front_of p ++ x ∷ []
 ends_in [] x e = absurd (get_none 0 x e)
 ends_in (y ∷ p) x e = ends_at (y ∷ p) x (length (y ∷ p) - 1) (omega arith) e
 
+-- what std's test of a front says of the cut
 pub ruleset fronts = (is_under-starts_with, cut-starts_with, cut-apart)

@@ -1,5 +1,5 @@
 -- What the definitions say together.
-use Rattle.std.specs.Prelude.{◌≡◌, Bool, ◌++◌, ◌↔◌, Ok, Some}
+use Rattle.std.specs.Prelude.{◌≡◌, ◌++◌, ◌↔◌, Ok, Some}
 use Rattle.std.specs.Cmp.{IsTotalOrder}
 use Rattle.std.specs.FinMap.{IsAntisymmetric}
 use Rattle.std.specs.Ordering.{is_lt}

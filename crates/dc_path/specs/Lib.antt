@@ -1,3 +1,4 @@
+-- The modules of the definitions.
 pub mod Lists
 pub mod Names
 pub mod Paths

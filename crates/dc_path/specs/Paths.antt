@@ -62,6 +62,7 @@ abbrev pub parent_of : Names → Option Names
 parent_of [] = None
 parent_of (name ∷ names) = Some (front_of (name ∷ names))
 
+-- the path of no names
 abbrev pub is_root : Names → Bool
 is_root [] = true
 is_root (x ∷ path) = false

@@ -6,6 +6,7 @@ use Rattle.dc_path.specs.declared.path.PathError.TheVariants.{Empty, Relative, B
 use Rattle.dc_path.specs.Names.{is_name}
 use Rattle.dc_path.specs.Paths.{Names, joined, cut}
 
+-- a part between two `/` that has bytes
 abbrev pub is_filled : List ℕ → Bool
 is_filled part = nat_lt 0 (length part)
 
@@ -19,6 +20,7 @@ within_limits names =
     if nat_lt 256 (length names) then Err TooDeep else
     if nat_lt 4096 (length (joined names)) then Err TooLong else Ok names
 
+-- an answer with a path, as one that may have none
 abbrev pub some_path : Result Names PathError → Result (Option Names) PathError
 some_path (Ok names) = Ok (Some names)
 some_path (Err e) = Err e

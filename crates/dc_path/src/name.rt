@@ -1,4 +1,4 @@
-//! Names of directories and files.
+//! The names of directories and files.
 #![tactic(auto)]
 
 ghost use Rattle.std.specs.Prelude.{◌≡◌, ℕ, if◌then◌else◌, Ok, Err};
@@ -11,7 +11,11 @@ use std::alloc::{AllocError, Global};
 use std::cmp::Ordering;
 use std::marker::Model;
 
-/// A name, seen as its bytes.
+/// A name of a directory or a file, seen as the list of its bytes (POSIX.1, "Filename").
+///
+/// A name is 1 to 255 bytes of UTF-8 (`NAME_MAX` of POSIX.1 is 255 in common file systems), none of them
+/// `/` or the character 0, and is neither `.` nor `..`.
+/// Names are ordered by their bytes as numbers, a prefix first.
 #[derive(Drop)]
 pub struct Name {
     content: String,
@@ -28,14 +32,14 @@ impl Model for Name {
     ghost invariant = { λ n. IsTrue (is_name (string_bytes n.content)) };
 }
 
-// Whether each byte may stand in a name.
+// Whether each byte may stand in a name: none is `/` or 0.
 fn all_plain(bytes: &[u8]) -> bool
     ensures { result ≡ list_all is_plain bytes.now }
 {
     bytes.iter().all(|byte| *byte != b'/' && *byte != 0)
 }
 
-/// Whether a text is a name.
+/// Whether a text is a name: it has 1 to 255 bytes, none of them `/` or 0, and is neither `.` nor `..`.
 #[tactic(auto, using(crate::proofs::Texts::texts), unfolding(crate::specs::Names::is_name))]
 pub fn test_name(text: &str) -> bool
     ensures { result ≡ is_name text.now }
@@ -54,6 +58,11 @@ impl Name {
     ghost use Rattle.dc_path.specs.Unless.{GivesUnless};
 
     /// The name with this text.
+    ///
+    /// # Errors
+    ///
+    /// - `BadName { place: 0 }`, exactly where the text is no name.
+    /// - `Memory`, which may come in the place of any answer.
     pub fn read(alloc: Global, text: &str) -> Result<Name, PathError>
         ensures { GivesUnless Memory result (if is_name text.now then Ok text.now else Err (PathError.BadName 0)) }
     {
@@ -64,7 +73,7 @@ impl Name {
         Ok(Name { content })
     }
 
-    /// The text.
+    /// The 1 to 255 bytes of the name, as a `str`; they always are those of a name.
     pub fn as_str(&self) -> &str
         ensures value { result.now ≡ self.now }
         ensures name { IsTrue (is_name self.now) }
@@ -72,7 +81,7 @@ impl Name {
         self.content.as_str()
     }
 
-    /// An equal name.
+    /// A name of the same bytes. `OutOfMemory` is the one error.
     pub fn copy(&self, alloc: Global) -> Result<Name, OutOfMemory>
         ensures { IfOk result (λ n. n ≡ self.now) }
     {

@@ -1,4 +1,4 @@
-//! Paths.
+//! Paths: how a text reads as one, their texts, and what is added to, cut from and replaced in them.
 #![tactic(auto)]
 
 ghost use Rattle.std.specs.Prelude.{◌≡◌, ℕ, ◌+◌, ◌-◌, ◌<◌, ◌≤◌, [], ◌∷◌, ◌++◌, List, length, take, drop, IfOk, OnOk, OnErr, Ok, Err, Some, None, IsTrue, IsNone, slice_get, string_bytes, if◌then◌else◌, MatchOption};
@@ -11,20 +11,28 @@ use std::alloc::{AllocError, Global};
 use std::cmp::Ordering;
 use std::marker::Model;
 
-/// The most names of a path.
+/// The most names that a `Path` may have.
 pub const MAX_NAMES: usize = 256;
 
-/// The most bytes of a path's text.
+/// The most bytes that the text of a `Path` may have. It has no byte 0 at its end, which `PATH_MAX` of
+/// POSIX.1 counts.
 pub const MAX_BYTES: usize = 4096;
 
-/// Why a text or a list of names is no path.
+/// Why a text is no path or no name, or why a list of names passes the limits of a path.
 #[derive(Clone, Copy, Debug, PartialEq, Eq)]
 pub enum PathError {
+    /// The text has no bytes.
     Empty,
+    /// The first byte of the text is not `/`.
     Relative,
+    /// A part of the text is no name. `place` counts the parts before it: it is at most 256, and 0 where a
+    /// text is read as one name.
     BadName { place: u32 },
+    /// There would be more than `MAX_NAMES` names.
     TooDeep,
+    /// The text would have more than `MAX_BYTES` bytes.
     TooLong,
+    /// Memory ran out. No clause says when this comes.
     Memory,
 }
 
@@ -50,7 +58,12 @@ impl From<AllocError> for PathError {
     }
 }
 
-/// A path, seen as the list of its names.
+/// A path, seen as the list of its names (POSIX.1, "Pathname", without `.` and `..`).
+///
+/// It has at most `MAX_NAMES` names, and its text at most `MAX_BYTES` bytes. The list of no names is
+/// the root, with the text `/`; else the text is a `/` and a name for each name. A path that is meant
+/// from some directory is a `Path` too, and reads and prints with the `/` in front.
+/// Paths are ordered name by name, a name by its bytes, a prefix first.
 #[derive(Drop)]
 pub struct Path {
     names: List<Name>,
@@ -73,7 +86,7 @@ impl Path {
     ghost use Rattle.dc_path.specs.Unless.{GivesUnless};
     ghost use Rattle.dc_path.specs.Reading.{within_limits, grafted, path_from, path_of, parts_of};
 
-    /// The root.
+    /// The root: the path of no names. It takes no memory, and cannot fail.
     pub fn root(alloc: Global) -> Path
         ensures { result ≡ [] }
     {
@@ -83,7 +96,20 @@ impl Path {
         }
     }
 
-    /// The path that a text reads as.
+    /// The path that a text reads as. A run of `/` counts as one, and a `/` at the end is dropped
+    /// (POSIX.1, "Pathname Resolution").
+    ///
+    /// # Errors
+    ///
+    /// The first of these, in this order:
+    ///
+    /// - `Empty`, where the text has no bytes;
+    /// - `Relative`, where its first byte is not `/`;
+    /// - from left to right, `TooDeep` at a 257th name, or `BadName` with the place, counted from 0, of
+    ///   the first part that is no name;
+    /// - `TooLong`, where the path's own text passes `MAX_BYTES` bytes.
+    ///
+    /// `Memory` may come in the place of any answer.
     pub fn read(alloc: Global, text: &str) -> Result<Path, PathError>
         ensures { GivesUnless Memory result (path_from text.now) }
     {
@@ -94,7 +120,7 @@ impl Path {
         }
     }
 
-    // The path of the parts of a text.
+    // The path of the parts of a text between its runs of `/`.
     fn read_parts(alloc: Global, text: &str) -> Result<Path, PathError>
         ensures { GivesUnless Memory result (path_of (parts_of text.now)) }
     {
@@ -105,9 +131,8 @@ impl Path {
                 continue;
             }
             if !test_name(part) {
-                return Err(PathError::BadName {
-                    place: names.len() as u32,
-                });
+                let place = names.len() as u32;
+                return Err(PathError::BadName { place });
             }
             if names.len() == MAX_NAMES {
                 return Err(PathError::TooDeep);
@@ -122,7 +147,7 @@ impl Path {
         Ok(Path { names, bytes })
     }
 
-    /// The number of names.
+    /// The number of names: 0 for the root, and at most `MAX_NAMES`.
     pub fn len(&self) -> usize
         ensures count { result ≡ length self.now }
         ensures path { IsPath self.now }
@@ -130,21 +155,22 @@ impl Path {
         self.names.len()
     }
 
-    /// The name at a place.
+    /// The name at a place, counted from 0, that below the root first; `None` at the number of
+    /// names and past it.
     pub fn name(&self, place: usize) -> Option<&Name>
         ensures { option_copied result ≡ slice_get self.now place }
     {
         self.names.get(place)
     }
 
-    /// The last name.
+    /// The last name; `None` for the root.
     pub fn last(&self) -> Option<&Name>
         ensures { option_copied result ≡ slice_get self.now (length self.now - 1) }
     {
         self.names.as_slice().last()
     }
 
-    // Adds a copy of a name at the end.
+    // Adds a copy of a name at the end, where the limits leave room for it.
     fn push(&mut self, alloc: Global, name: &Name) -> Result<(), OutOfMemory>
         requires few { length self.old < 256 }
         requires short { length (joined self.old) + (length name.now + 1) ≤ 4096 }
@@ -158,7 +184,7 @@ impl Path {
         Ok(())
     }
 
-    // Adds copies of names at the end.
+    // Adds copies of names at the end, where the limits leave room for them.
     #[tactic(auto, using(crate::proofs::Joins::joins))]
     fn push_all(&mut self, alloc: Global, names: &[Name]) -> Result<(), OutOfMemory>
         requires few { length self.old + length names.now ≤ 256 }
@@ -171,7 +197,7 @@ impl Path {
         Ok(())
     }
 
-    /// An equal path.
+    /// A path of the same names. `OutOfMemory` is the one error.
     pub fn copy(&self, alloc: Global) -> Result<Path, OutOfMemory>
         ensures { IfOk result (λ p. p ≡ self.now) }
     {
@@ -180,7 +206,7 @@ impl Path {
         Ok(path)
     }
 
-    /// The path without its last name; `None` for the root.
+    /// The path without its last name; `None` for the root. `OutOfMemory` is the one error.
     #[tactic(auto, using(crate::proofs::Joins::joins))]
     pub fn parent(&self, alloc: Global) -> Result<Option<Path>, OutOfMemory>
         ensures { IfOk result (λ p. p ≡ parent_of self.now) }
@@ -194,7 +220,13 @@ impl Path {
         Ok(Some(path))
     }
 
-    /// The path with a name more.
+    /// The path with one name more at its end.
+    ///
+    /// # Errors
+    ///
+    /// - `TooDeep`, exactly where the new path would have more than `MAX_NAMES` names;
+    /// - else `TooLong`, exactly where its text would have more than `MAX_BYTES` bytes;
+    /// - `Memory`, which may come in the place of any answer.
     #[tactic(auto, using(crate::proofs::Joins::joins))]
     pub fn child(&self, alloc: Global, name: &Name) -> Result<Path, PathError>
         ensures { GivesUnless Memory result (within_limits (self.now ++ name.now ∷ [])) }
@@ -211,7 +243,13 @@ impl Path {
         Ok(path)
     }
 
-    /// The path followed by another.
+    /// The path followed by the names of another.
+    ///
+    /// # Errors
+    ///
+    /// - `TooDeep`, exactly where the new path would have more than `MAX_NAMES` names;
+    /// - else `TooLong`, exactly where its text would have more than `MAX_BYTES` bytes;
+    /// - `Memory`, which may come in the place of any answer.
     #[tactic(auto, using(crate::proofs::Joins::joins))]
     pub fn join(&self, alloc: Global, rel: &Path) -> Result<Path, PathError>
         ensures { GivesUnless Memory result (within_limits (self.now ++ rel.now)) }
@@ -227,7 +265,7 @@ impl Path {
         Ok(path)
     }
 
-    /// Whether the path begins with another.
+    /// Whether the path begins with all names of another. Each path begins with the root and with itself.
     #[tactic(auto, using(crate::proofs::PathLemmas::fronts))]
     pub fn starts_with(&self, front: &Path) -> bool
         ensures { result ≡ is_under front.now self.now }
@@ -235,7 +273,8 @@ impl Path {
         self.names.as_slice().starts_with(front.names.as_slice())
     }
 
-    /// What follows a front; `None` where it is none.
+    /// The names that follow a front, as a path; `None` where the path does not begin with the front.
+    /// `OutOfMemory` is the one error.
     #[tactic(auto, using(crate::proofs::Joins::joins, crate::proofs::PathLemmas::fronts))]
     pub fn cut(&self, alloc: Global, front: &Path) -> Result<Option<Path>, OutOfMemory>
         ensures { IfOk result (λ p. p ≡ cut front.now self.now) }
@@ -248,7 +287,14 @@ impl Path {
         Ok(Some(rest))
     }
 
-    /// Another path with what follows a front; `None` where it is none.
+    /// Another path, `to`, in the place of a front: `to` followed by the names that follow the front;
+    /// `None` where the path does not begin with the front.
+    ///
+    /// # Errors
+    ///
+    /// - `TooDeep`, exactly where the new path would have more than `MAX_NAMES` names;
+    /// - else `TooLong`, exactly where its text would have more than `MAX_BYTES` bytes;
+    /// - `Memory`, which may come in the place of any answer.
     #[tactic(auto, using(crate::proofs::Joins::joins))]
     pub fn graft(&self, alloc: Global, front: &Path, to: &Path) -> Result<Option<Path>, PathError>
         ensures { GivesUnless Memory result (grafted front.now to.now self.now) }
@@ -259,14 +305,14 @@ impl Path {
         }
     }
 
-    /// The order of paths: name by name by bytes, a prefix first.
+    /// The order of paths: name by name, a name by its bytes as numbers, a prefix first. Only equal paths tie.
     pub fn compare(&self, other: &Path) -> Ordering
         ensures { result ≡ path_cmp self.now other.now }
     {
         self.names.as_slice().cmp(other.names.as_slice())
     }
 
-    // Adds a `/` and a name for each name.
+    // Adds to a text a `/` and the name, for each name.
     fn write_names(&self, text: &mut String) -> Result<(), OutOfMemory>
         ensures { OnOk result (string_bytes text.new ≡ string_bytes text.old ++ joined self.now) }
     {
@@ -277,7 +323,8 @@ impl Path {
         Ok(())
     }
 
-    /// The text of the path.
+    /// The text of the path, of 1 to `MAX_BYTES` bytes: `/` for the root, else a `/` and the name for each
+    /// name. `OutOfMemory` is the one error.
     pub fn text(&self, alloc: Global) -> Result<Text, OutOfMemory>
         ensures { IfOk result (λ t. t ≡ text_of self.now) }
     {
@@ -289,7 +336,8 @@ impl Path {
         Ok(Text::of(text))
     }
 
-    /// `.` followed by the text, and `.` alone for the root.
+    /// `.` followed by the text, and `.` alone for the root: the path as one from a directory on.
+    /// `OutOfMemory` is the one error.
     pub fn dotted(&self, alloc: Global) -> Result<Text, OutOfMemory>
         ensures { IfOk result (λ t. t ≡ dotted_of self.now) }
     {

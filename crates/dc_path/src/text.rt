@@ -1,4 +1,4 @@
-//! An owned text.
+//! Owned texts.
 #![tactic(auto)]
 
 ghost use Rattle.std.specs.Prelude.{◌≡◌, [], IfOk, string_bytes};
@@ -7,7 +7,9 @@ use crate::OutOfMemory;
 use std::alloc::Global;
 use std::marker::Model;
 
-/// An owned text, seen as its bytes.
+/// A text that owns its bytes, seen as the list of these bytes (0 to 255 each).
+///
+/// It is UTF-8, as every `str`. It has no limit but memory, and is never changed once it is made.
 #[derive(Drop)]
 pub struct Text {
     content: String,
@@ -22,7 +24,7 @@ impl Model for Text {
 }
 
 impl Text {
-    /// The empty text. It takes no memory.
+    /// The text of no bytes. It takes no memory, and cannot fail.
     pub fn new(alloc: Global) -> Text
         ensures { result ≡ [] }
     {
@@ -31,7 +33,7 @@ impl Text {
         }
     }
 
-    /// A copy of a text.
+    /// A text of the same bytes. `OutOfMemory` is the one error.
     pub fn read(alloc: Global, text: &str) -> Result<Text, OutOfMemory>
         ensures { IfOk result (λ t. t ≡ text.now) }
     {
@@ -39,14 +41,14 @@ impl Text {
         Ok(Text { content })
     }
 
-    // The text of a string.
+    // The text with the bytes of a string, which it takes over.
     pub(crate) fn of(content: String) -> Text
         ensures { result ≡ string_bytes content }
     {
         Text { content }
     }
 
-    /// The text.
+    /// The bytes of the text, as a `str`.
     pub fn as_str(&self) -> &str
         ensures { result.now ≡ self.now }
     {

@@ -1,8 +1,8 @@
-use Rattle.std.proofs.Common.{rules, ◌≡◌, true, nat_eq, arith, drop, length, Some, sym, ap, ◌∙◌}
+-- What follows a front by its number of names is what the cut is.
+use Rattle.std.proofs.Common.{◌≡◌, true, nat_eq, arith, drop, length, Some, sym, ap, ◌∙◌}
 use Rattle.std.specs.List.{starts_with}
 use Rattle.std.specs.Cmp.Lexicographic.{pointwise}
 use Rattle.std.proofs.lemmas.Grind.{common_steps}
-use Rattle.dc_path.specs.Paths.{cut}
 use Rattle.dc_path.proofs.PathLemmas.{cut-starts_with}
 use Rattle.dc_path.proofs.path.Path.cut.Goals as goal
 

@@ -1,0 +1,35 @@
+use Rattle.std.proofs.Common.{◌≡◌, ◌≤◌, ◌∙◌, ◌++◌, ◌∷◌, [], ℕ, Bool, arith, length, map, refl, ap, subst, Option, IfSome, length-append}
+use Rattle.std.proofs.lemmas.List.{map-append}
+use Rattle.dc_attrs.specs.Trees.{Tree}
+use Rattle.dc_cli.specs.Phases.{content_of}
+use Rattle.dc_cli.specs.Ready.{content_in}
+use Rattle.dc_cli.proofs.CopyLemmas.{contents_start, contents_step}
+use Rattle.dc_cli.proofs.copying.copy_files.Goals as goal
+
+pub loop-item-init : goal.loop-item-init
+loop-item-init g c = record {
+  tree = refl;
+  rest = refl;
+  later = omega arith;
+  tells = refl;
+  made = omega (arith, ap length c.new-files.ensures.items);
+  desk_later = omega arith;
+  copied = contents_start (g.S.Store.tree c.args.source.now) (map (content_in g.D.Temp.Held.content) c.new-files.result.items) (ap (map (content_in g.D.Temp.Held.content)) c.new-files.ensures.items);
+}
+
+pub loop-item-preserved : goal.loop-item-preserved
+loop-item-preserved g c = record {
+  tree = c.copy_item.ensures.tree ∙ c.loop-item.invariant.tree;
+  rest = c.copy_item.ensures.rest ∙ c.loop-item.invariant.rest;
+  later = omega (arith, c.copy_item.ensures.cause.later, c.loop-item.invariant.later);
+  tells = c.copy_item.ensures.tells ∙ c.loop-item.invariant.tells;
+  made = omega (arith, ap length c.in_ok-push.ensures.items, length-append c.loop-item.files.items (c.in_ok-file.file ∷ []), c.in_ok-file.ensures.made, c.loop-item.invariant.made);
+  desk_later = omega (arith, c.copy_item.ensures.desk_cause.later, c.loop-item.invariant.desk_later);
+  copied = contents_step (g.S.Store.tree c.args.source.now) (g.D.Desk.tells c.args.desk.now) c.args.root.now c.args.items.now c.loop-item.item-index c.item-item.result
+      (map (content_in g.D.Temp.Held.content) c.loop-item.files.items) (map (content_in g.D.Temp.Held.content) c.push.new.self.items) (content_in g.D.Temp.Held.content c.in_ok-file.file)
+      c.item-item.is c.loop-item-test.true c.if-item.false
+      (ap (map (content_in g.D.Temp.Held.content)) c.in_ok-push.ensures.items ∙ map-append (content_in g.D.Temp.Held.content) c.loop-item.files.items (c.in_ok-file.file ∷ []))
+      c.loop-item.invariant.copied
+      (subst (λ (o : Option Tree). IfSome o (λ s. content_in g.D.Temp.Held.content c.in_ok-file.file ≡ content_of (g.D.Desk.tells c.args.desk.now) s c.args.root.now c.item-item.result)) c.loop-item.invariant.tree
+      (subst (λ (b : Bool). IfSome (g.S.Store.tree c.loop-item.source) (λ s. content_in g.D.Temp.Held.content c.in_ok-file.file ≡ content_of b s c.args.root.now c.item-item.result)) c.loop-item.invariant.tells c.in_ok-file.ensures.copied));
+}

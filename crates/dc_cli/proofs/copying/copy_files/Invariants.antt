@@ -1,0 +1,17 @@
+use Rattle.std.proofs.Common.{◌≡◌, ◌≤◌, take, length, map, IfSome}
+use Rattle.dc_fs.specs.Causes.{counted}
+use Rattle.dc_cli.specs.Phases.{contents_of}
+use Rattle.dc_cli.specs.Ready.{content_in}
+use Rattle.dc_cli.proofs.copying.copy_files.Given as goal
+
+-- the files so far are ready
+abbrev pub invariant-loop-item : goal.invariant-loop-item
+invariant-loop-item g l = record {
+  tree : g.S.Store.tree l.source ≡ g.S.Store.tree l.fn.source;
+  rest : g.S.Store.rest l.source ≡ g.S.Store.rest l.fn.source;
+  later : g.S.Store.faults l.fn.source ≤ g.S.Store.faults l.source;
+  tells : g.D.Desk.tells l.desk ≡ g.D.Desk.tells l.fn.desk;
+  made : counted (g.D.Desk.made l.fn.desk) (length l.files.items) ≤ g.D.Desk.made l.desk;
+  desk_later : g.D.Desk.faults l.fn.desk ≤ g.D.Desk.faults l.desk;
+  copied : IfSome (g.S.Store.tree l.fn.source) (λ s. map (content_in g.D.Temp.Held.content) l.files.items ≡ contents_of (g.D.Desk.tells l.fn.desk) s l.root (take l.item-index l.items));
+}

@@ -1,0 +1,21 @@
+use Rattle.std.proofs.Common.{◌≡◌, ◌-◌, ◌≤◌, take, Some, IfSome, IsSome}
+use Rattle.dc_fs.specs.Temporaries.{told_if}
+use Rattle.dc_cli.specs.Phases.{file_bytes}
+use Rattle.dc_cli.proofs.copying.copy_pieces.Given as goal
+
+-- the first bytes of the file are on the desk
+abbrev pub invariant-pieces : goal.invariant-pieces
+invariant-pieces g l = record {
+  within : l.done ≤ l.size;
+  tree : g.S.Store.tree l.source ≡ g.S.Store.tree l.fn.source;
+  rest : g.S.Store.rest l.source ≡ g.S.Store.rest l.fn.source;
+  later : g.S.Store.faults l.fn.source ≤ g.S.Store.faults l.source;
+  tells : g.D.Desk.tells l.desk ≡ g.D.Desk.tells l.fn.desk;
+  made : g.D.Desk.made l.desk ≡ g.D.Desk.made l.fn.desk;
+  desk_later : g.D.Desk.faults l.fn.desk ≤ g.D.Desk.faults l.desk;
+  working : IsSome (g.D.Desk.current l.desk);
+  copied : IfSome (g.S.Store.tree l.fn.source) (λ s. g.D.Desk.current l.desk ≡ Some (told_if (g.D.Desk.tells l.fn.desk) (take l.done (file_bytes (s l.path)))));
+}
+
+abbrev pub decreases-pieces : goal.decreases-pieces
+decreases-pieces g l = l.size - l.done
