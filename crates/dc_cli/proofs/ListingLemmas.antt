@@ -15,14 +15,16 @@ use Rattle.dc_path.specs.Paths.{Names, cut, at_cut, same_path}
 use Rattle.dc_path.proofs.FoundLemmas.{or_found, found-push}
 use Rattle.dc_path.proofs.OrderLemmas.{name_lt-cmp, is_after-child, is_after-sibling, is_ascending-push, all_below-push_after, all_below-push_child}
 use Rattle.dc_path.proofs.PathLemmas.{NameCase, same, other, name_case, same_name-refl, same_path-cut, same_path-not_below, same_path-true, append-cut, then_cut, cut-child}
-use Rattle.dc_attrs.specs.Trees.{Node, Dir, File, Tree, IsTree, is_hidden, snapshot, seen, seen_node}
+use Rattle.dc_attrs.specs.Trees.{Node, Dir, File, Tree, IsTree, IsDirAt, is_hidden, snapshot, seen, seen_node}
 use Rattle.dc_attrs.specs.declared.shown.Seen.{Seen}
 use Rattle.dc_attrs.specs.declared.shown.Seen.TheVariants as seen_as
 use Rattle.dc_attrs.proofs.TreeLemmas.{seen_from-Dir, seen_from-File, seen_from-there, dir_at, file_at, there_is, nothing_below, nothing_in_file}
+use Rattle.dc_fs.specs.Answers.{refused_list}
 use Rattle.dc_fs.specs.Looks.{is_shown, AreNames}
 use Rattle.dc_cli.specs.Items.{rel_of, item_of, is_dir, fits, fits_under}
 use Rattle.dc_cli.specs.Listed.{Listing, listed}
-use Rattle.dc_cli.specs.Walks.{IsChanged, child_of, entered, through, item_under, Gains, GainsNames, GainsAll, GainsItem, Keeps, DirStops, ChildStops}
+use Rattle.dc_cli.specs.Walks.{IsChanged}
+use Rattle.dc_cli.specs.Walking.{child_of, entered, through, item_under, Gains, GainsNames, GainsAll, GainsItem, Keeps, DirStops, ChildStops}
 use Rattle.dc_cli.specs.declared.listing.Item.{Item}
 use Rattle.dc_cli.specs.declared.listing.Place.{Place}
 use Rattle.dc_cli.specs.declared.listing.ListError.{ListError}
@@ -43,7 +45,7 @@ map_or : {A B : Type 0} (f : A → B) (a b : Option A) → option_or (option_map
 map_or f None b = refl
 map_or f (Some x) b = refl
 
-or_none : {A : Type 0} (a : Option A) → option_or a None ≡ a
+pub or_none : {A : Type 0} (a : Option A) → option_or a None ≡ a
 or_none None = refl
 or_none (Some x) = refl
 
@@ -121,7 +123,7 @@ gains_down rel x A old new a = λ q.
     a q ∙ ap (option_or (found rel_of old q)) (ap (λ o. at_cut o None (λ rest. option_map (item_of q) (A rest))) (cut-child rel x q) ∙ down_at x A (item_of q) (cut rel q))
 
 -- ---- what is listed at and under one name
-same_name-flip : (x y : List ℕ) → same_name x y ≡ same_name y x
+pub same_name-flip : (x y : List ℕ) → same_name x y ≡ same_name y x
 same_name-flip x y = flip_at x y (name_case x y) (name_case y x)
   where
     flip_at : (x y : List ℕ) → NameCase x y → NameCase y x → same_name x y ≡ same_name y x
@@ -130,7 +132,7 @@ same_name-flip x y = flip_at x y (name_case x y) (name_case y x)
     flip_at x y (other e h) (same f k) = absurd (h (sym k))
     flip_at x y (other e h) (other f k) = e ∙ sym f
 
-any_one : (b : Bool) → (b || false) ≡ b
+pub any_one : (b : Bool) → (b || false) ≡ b
 any_one true = refl
 any_one false = refl
 
@@ -149,7 +151,7 @@ listed_child s from x r h =
     ap (λ b. cond b None (s (from ++ x ∷ r))) (not_hidden x r h)
     ∙ ap (λ (p : Names). cond (is_hidden r) None (s p)) (sym (append_assoc from (x ∷ []) r))
 
-none_either : {A : Type 0} (b : Bool) → ◌≡◌ {A = Option A} (cond b None None) None
+pub none_either : {A : Type 0} (b : Bool) → ◌≡◌ {A = Option A} (cond b None None) None
 none_either true = refl
 none_either false = refl
 
@@ -175,7 +177,7 @@ file_through s from x node [] v h e d = refl
 file_through s from x node (y ∷ r) v h e d = file_first s from x y node r (name_case x y) (file_rest s from x node r v h e d) ∙ sym (through_one x y (listed s from) r)
 
 -- a directory: itself, and what is listed under it
-dir_rest : (s : Tree) (from : Names) (x : List ℕ) (node : Node) (r : Names) → is_shown x ≡ true → s (from ++ x ∷ []) ≡ Some node → option_or (cond (same_path [] r) (Some node) None) (listed s (from ++ x ∷ []) r) ≡ listed s from (x ∷ r)
+pub dir_rest : (s : Tree) (from : Names) (x : List ℕ) (node : Node) (r : Names) → is_shown x ≡ true → s (from ++ x ∷ []) ≡ Some node → option_or (cond (same_path [] r) (Some node) None) (listed s (from ++ x ∷ []) r) ≡ listed s from (x ∷ r)
 dir_rest s from x node [] h e = sym (listed_child s from x [] h ∙ ap s (append-nil (from ++ x ∷ [])) ∙ e)
 dir_rest s from x node (z ∷ r) h e = sym (listed_child s from x (z ∷ r) h)
 
@@ -189,7 +191,7 @@ dir_first s from x y node r o (other e h) k =
     ap (λ b. option_or (cond (b && same_path [] r) (Some node) None) (cond b o None)) e
     ∙ sym (ap (λ b. cond b (listed s from (y ∷ r)) None) e)
 
-dir_through : (s : Tree) (from : Names) (x : List ℕ) (node : Node) (rest : Names) → is_shown x ≡ true → s (from ++ x ∷ []) ≡ Some node → option_or (only (x ∷ []) node rest) (below x (listed s (from ++ x ∷ [])) rest) ≡ through (x ∷ []) (listed s from) rest
+pub dir_through : (s : Tree) (from : Names) (x : List ℕ) (node : Node) (rest : Names) → is_shown x ≡ true → s (from ++ x ∷ []) ≡ Some node → option_or (only (x ∷ []) node rest) (below x (listed s (from ++ x ∷ [])) rest) ≡ through (x ∷ []) (listed s from) rest
 dir_through s from x node [] h e = refl
 dir_through s from x node (y ∷ r) h e = dir_first s from x y node r (listed s (from ++ x ∷ []) r) (name_case x y) (dir_rest s from x node r h e) ∙ sym (through_one x y (listed s from) r)
 
@@ -206,12 +208,12 @@ through_more names x L (y ∷ r) =
     or_both (list_any (same_name y) names) (list_any (same_name y) (x ∷ [])) (L (y ∷ r))
     ∙ ap (λ b. cond b (L (y ∷ r)) None) (sym (list_any-append (same_name y) names (x ∷ [])))
 
-none_there : (o : Option Node) → is_some o ≡ false → o ≡ None
+pub none_there : (o : Option Node) → is_some o ≡ false → o ≡ None
 none_there None h = refl
 none_there (Some n) h = cc
 
 -- what is under a name that a directory does not show is not listed
-not_listed : (s : Tree) (from : Names) (y : List ℕ) (r : Names) (b : Bool) → IsTree s → is_shown y ≡ b → (b && is_some (s (from ++ y ∷ []))) ≡ false → listed s from (y ∷ r) ≡ None
+pub not_listed : (s : Tree) (from : Names) (y : List ℕ) (r : Names) (b : Bool) → IsTree s → is_shown y ≡ b → (b && is_some (s (from ++ y ∷ []))) ≡ false → listed s from (y ∷ r) ≡ None
 not_listed s from y r true v h e =
     listed_child s from y r h
     ∙ ap (λ o. cond (is_hidden r) None o) (nothing_below s (from ++ y ∷ []) r v (none_there (s (from ++ y ∷ [])) e))
@@ -222,7 +224,7 @@ not_listed s from y r false v h e = ap (λ b. cond b None (s (from ++ y ∷ r)))
     hidden_first true c h = refl
     hidden_first false c h = cc
 
-all_through : (s : Tree) (from names rest : Names) → IsTree s → AreNames s from names → through names (listed s from) rest ≡ listed s from rest
+pub all_through : (s : Tree) (from names rest : Names) → IsTree s → AreNames s from names → through names (listed s from) rest ≡ listed s from rest
 all_through s from names [] v a = refl
 all_through s from names (y ∷ r) v a = shown_at s from names y r v a (list_any (same_name y) names) refl
   where
@@ -315,18 +317,7 @@ dir_added (Some s) dir x old mid new h g a = λ v.
     (subst (λ (ns : List Item). Gains dir.rel (only (x ∷ []) g.0) old ns) (sym g.3) (gains_push dir.rel (x ∷ []) g.0 old))
     (gains_down dir.rel x (listed s (dir.from ++ x ∷ [])) mid new (a v))
 
-pub walking_start : (dir : Place) (names : Names) (told : Option Tree) (old : List Item) → is_ascending (map rel_of old) ≡ true → length old ≤ 1048576 → ((x : List ℕ) → all_below (map rel_of old) (dir.rel ++ x ∷ []) ≡ true) → Walking dir names 0 told old old
-walking_start dir names told old a l b = record { kept = keeps_start dir old a l; added = nothing_yet told dir old; next = λ k _ _. b (get_or names k []) }
-  where
-    no_names : (L : Listing) (rest : Names) → None ≡ through [] L rest
-    no_names L [] = refl
-    no_names L (y ∷ r) = refl
-
-    nothing_yet : (told : Option Tree) (dir : Place) (old : List Item) → GainsNames [] told dir old old
-    nothing_yet None dir old = tt
-    nothing_yet (Some s) dir old = λ v. gains_as dir.rel (λ rest. None) (through [] (listed s dir.from)) old old (no_names (listed s dir.from)) (gains_nothing dir.rel old)
-
-names_ascend : (names : Names) (i k : ℕ) → IsStrictlySortedBy (slice_cmp nat_cmp) names → i < k → k < length names → name_lt (get_or names i []) (get_or names k []) ≡ true
+pub names_ascend : (names : Names) (i k : ℕ) → IsStrictlySortedBy (slice_cmp nat_cmp) names → i < k → k < length names → name_lt (get_or names i []) (get_or names k []) ≡ true
 names_ascend names i k a h l = name_lt-cmp (get_or names i []) (get_or names k []) ∙ ap is_lt (Less-from_sorted (slice_cmp nat_cmp) names i k [] a h l)
 
 pub walking_step : (dir : Place) (names : Names) (x : List ℕ) (i : ℕ) (told : Option Tree) (old mid new : List Item) → i < length names → x ≡ get_or names i [] → IsStrictlySortedBy (slice_cmp nat_cmp) names → Walking dir names i told old mid → Keeps (child_of dir x) mid new → GainsNames (x ∷ []) told dir mid new → Walking dir names (i + 1) told old new
@@ -372,7 +363,7 @@ shown_at (y ∷ names) (suc i) x a l e = shown_at names i x (second_true (is_sho
     second_true true b h = h
     second_true false b h = cc
 
-among : (names : Names) (i : ℕ) (x : List ℕ) → i < length names → x ≡ get_or names i [] → list_any (same_name x) names ≡ true
+pub among : (names : Names) (i : ℕ) (x : List ℕ) → i < length names → x ≡ get_or names i [] → list_any (same_name x) names ≡ true
 among [] i x l e = absurd (omega arith)
 among (y ∷ names) zero x l e = ap (λ b. b || list_any (same_name x) names) (ap (same_name x) (sym e) ∙ same_name-refl x)
 among (y ∷ names) (suc i) x l e = or_true (same_name x y) (list_any (same_name x) names) (among names i x (omega arith) e)
@@ -393,3 +384,14 @@ child_denied e (Some s) dir names i x l f a h = λ v c d. h v c (second (is_show
     second : (a b : Bool) → (a && b) ≡ true → b ≡ true
     second true b h = h
     second false b h = cc
+
+-- a store lists directories alone
+refused_as : (shown : Seen) → refused_list shown ≡ None → shown ≡ seen_as.Dir
+refused_as seen_as.Dir h = refl
+refused_as (seen_as.File n) h = cc
+refused_as seen_as.Missing h = cc
+refused_as seen_as.NotDir h = cc
+
+pub lists_dir : (told : Option Tree) (path : Names) → IfSome told (λ s. refused_list (seen s path) ≡ None) → IfSome told (λ s. IsDirAt s path)
+lists_dir None path h = tt
+lists_dir (Some s) path h = dir_at (s path) (seen_from-Dir s [] path (refused_as (seen s path) h))

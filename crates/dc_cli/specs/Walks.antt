@@ -1,16 +1,11 @@
--- Walks of a source directory: what a list of items gains by them, and why they stop.
-use Rattle.std.specs.Prelude.{◌≡◌, ℕ, ◌≤◌, Bool, true, cond, List, [], ◌∷◌, ◌++◌, map, length, Option, Some, None, Result, Ok, Err, if◌then◌else◌, IfSome, ⊤}
-use Rattle.std.specs.Option.{option_map, option_or}
-use Rattle.std.specs.List.{list_any, list_all}
-use Rattle.dc_path.specs.Found.{found}
-use Rattle.dc_path.specs.Names.{same_name}
-use Rattle.dc_path.specs.Order.{is_after, all_below, is_ascending}
-use Rattle.dc_path.specs.Paths.{Names, joined, cut, at_cut}
-use Rattle.dc_attrs.specs.Trees.{Node, Tree, IsTree, IsThere, IsDirAt}
-use Rattle.dc_cli.specs.Items.{rel_of, item_of, fits, fits_under, is_dir}
-use Rattle.dc_cli.specs.Listed.{Listing, listed}
-use Rattle.dc_cli.specs.declared.listing.Item.{Item}
-use Rattle.dc_cli.specs.declared.listing.Place.{Place}
+-- Why a source directory is not listed, and exactly where.
+use Rattle.std.specs.Prelude.{◌≡◌, ℕ, ◌≤◌, Bool, false, cond, List, [], ◌∷◌, ◌++◌, length, ⊤, ◌&&◌, IsTrue, IsSome}
+use Rattle.std.specs.Option.{is_some}
+use Rattle.std.specs.List.{list_any}
+use Rattle.dc_path.specs.Order.{path_lt, is_ascending}
+use Rattle.dc_path.specs.Paths.{Names, same_path}
+use Rattle.dc_cli.specs.Items.{fits}
+use Rattle.dc_cli.specs.Listed.{Listing}
 use Rattle.dc_cli.specs.declared.listing.ListError.{ListError}
 use Rattle.dc_cli.specs.declared.listing.ListError.TheVariants as list_error
 
@@ -22,70 +17,46 @@ IsChanged (list_error.Changed path) = ⊤
 IsChanged list_error.Fault = ⊥
 IsChanged list_error.Memory = ⊥
 
--- ---- paths of a walk
--- a directory's path with a name more, or that path and the name where it passes the limits
-abbrev pub stepped : Names → List ℕ → Result Names ListError
-stepped dir name = if fits (dir ++ name ∷ []) then Ok (dir ++ name ∷ []) else Err (list_error.TooLong dir name)
+-- a fact of the path that passes the limits, told by its parent and its last name
+abbrev pub IfTooLong : ListError → (Names → List ℕ → Type 0) → Type 0
+IfTooLong list_error.TooMany P = ⊤
+IfTooLong (list_error.TooLong parent name) P = P parent name
+IfTooLong (list_error.Changed path) P = ⊤
+IfTooLong list_error.Fault P = ⊤
+IfTooLong list_error.Memory P = ⊤
 
--- what has this name in a directory
-abbrev pub child_of : Place → List ℕ → Place
-child_of dir name = record {
-  from = dir.from ++ name ∷ [];
-  rel = dir.rel ++ name ∷ [];
-  to = dir.to ++ name ∷ [];
-}
+-- ---- when a listing is refused
+-- a path in the source and its place in the target are within the limits
+abbrev pub both_fit : Names → Names → Names → Bool
+both_fit root base rel = fits (root ++ rel) && fits (base ++ rel)
 
--- what has this name in a directory, unless its path in the source or else that in the target passes the limits
-abbrev pub entered : Place → List ℕ → Result Place ListError
-entered dir name =
-    if fits (dir.from ++ name ∷ []) then
-    if fits (dir.to ++ name ∷ []) then Ok (child_of dir name) else Err (list_error.TooLong dir.to name)
-    else Err (list_error.TooLong dir.from name)
+-- the path in the source where that passes the limits, and else the place in the target
+abbrev pub passing : Names → Names → Names
+passing from to = cond (fits from) to from
 
--- a path under the source directory is no longer than the path in the source
-pub record IsShorter (place : Place) : Type 0 where
-  pub few : length place.rel ≤ length place.from
-  pub short : length (joined place.rel) ≤ length (joined place.from)
+-- all that is listed before a path, in order
+pub record AreBefore (listing : Listing) (rel : Names) (rels : List Names) : Type 0 where
+  pub ascending : IsTrue (is_ascending rels)
+  pub listed : (q : Names) → list_any (same_path q) rels ≡ (path_lt q rel && is_some (listing q))
 
--- ---- what is added
--- of a listing, what stands at and under these names
-abbrev pub through : List (List ℕ) → Listing → Listing
-through names listing [] = None
-through names listing (x ∷ rest) = cond (list_any (same_name x) names) (listing (x ∷ rest)) None
+-- the first listed path that passes the limits in the source or in the target, told by its parent and its last name;
+-- what is listed before it is not too much
+pub record IsTooLong (listing : Listing) (root base parent : Names) (name : List ℕ) : Type 0 where
+  pub rel : Names
+  pub listed : IsSome (listing rel)
+  pub passes : both_fit root base rel ≡ false
+  pub told : parent ++ name ∷ [] ≡ passing (root ++ rel) (base ++ rel)
+  pub first : (q : Names) → IsTrue (path_lt q rel) → IsSome (listing q) → IsTrue (both_fit root base q)
+  pub rels : List Names
+  pub before : AreBefore listing rel rels
+  pub few : length rels ≤ 1048576
 
--- the item at a path for what a directory lists; the directory's own path is rel
-abbrev pub item_under : Names → Listing → Names → Option Item
-item_under rel listing q = at_cut (cut rel q) None (λ rest. option_map (item_of q) (listing rest))
-
--- the list has its old items, and then those of what a directory lists
-abbrev pub Gains : Names → Listing → List Item → List Item → Type 0
-Gains rel listing old new = (q : Names) → found rel_of new q ≡ option_or (found rel_of old q) (item_under rel listing q)
-
--- the list gained what stands at and under these names of a directory
-abbrev pub GainsNames : List (List ℕ) → Option Tree → Place → List Item → List Item → Type 0
-GainsNames names told dir old new = IfSome told (λ s. IsTree s → Gains dir.rel (through names (listed s dir.from)) old new)
-
--- the list gained what is listed under a directory
-abbrev pub GainsAll : Option Tree → Place → List Item → List Item → Type 0
-GainsAll told dir old new = IfSome told (λ s. IsTree s → Gains dir.rel (listed s dir.from) old new)
-
--- the list gained the item of what stands here, a directory or a file
-abbrev pub GainsItem : Option Tree → Place → Bool → List Item → List Item → Type 0
-GainsItem told place dir old new = IfSome told (λ s. (n : Node) × (s place.from ≡ Some n) × (is_dir n ≡ dir) × (new ≡ old ++ item_of place.rel n ∷ []))
-
--- ---- what always holds of a list to which a walk adds
-pub record Keeps (place : Place) (old new : List Item) : Type 0 where
-  pub ascending : is_ascending (map rel_of new) ≡ true
-  pub bound : (b : Names) → is_after place.rel b ≡ true → all_below (map rel_of old) b ≡ true → all_below (map rel_of new) b ≡ true
-  pub sources : (front : Names) → place.from ≡ front ++ place.rel → list_all (fits_under front) old ≡ true → list_all (fits_under front) new ≡ true
-  pub places : (front : Names) → place.to ≡ front ++ place.rel → list_all (fits_under front) old ≡ true → list_all (fits_under front) new ≡ true
-  pub few : length new ≤ 1048576
-
--- ---- why a walk stops
--- what a walk of a directory that stops says of the tree
-abbrev pub DirStops : ListError → Option Tree → Place → Type 0
-DirStops e told dir = IfSome told (λ s. IsTree s → IsChanged e → IsDirAt s dir.from → ⊥)
-
--- what a walk of a directory's child that stops says of the tree
-abbrev pub ChildStops : ListError → Option Tree → Place → Type 0
-ChildStops e told place = IfSome told (λ s. IsTree s → IsChanged e → IsThere s place.from → ⊥)
+-- a listed path before which 1,048,576 paths are listed, all of them and itself within the limits
+pub record IsTooMany (listing : Listing) (root base : Names) : Type 0 where
+  pub rel : Names
+  pub listed : IsSome (listing rel)
+  pub within : IsTrue (both_fit root base rel)
+  pub first : (q : Names) → IsTrue (path_lt q rel) → IsSome (listing q) → IsTrue (both_fit root base q)
+  pub rels : List Names
+  pub before : AreBefore listing rel rels
+  pub many : length rels ≡ 1048576

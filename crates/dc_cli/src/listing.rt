@@ -14,7 +14,8 @@ ghost use Rattle.dc_fs.specs.Causes.{HasCause};
 ghost use Rattle.dc_fs.specs.Looks.{is_shown, AreNames};
 ghost use Rattle.dc_cli.specs.Items.{rel_of, fits, fits_under, AreItems};
 ghost use Rattle.dc_cli.specs.Listed.{listed};
-ghost use Rattle.dc_cli.specs.Walks.{IsChanged, IsShorter, stepped, child_of, entered, GainsNames, GainsAll, GainsItem, Keeps, DirStops, ChildStops};
+ghost use Rattle.dc_cli.specs.Walks.{IsChanged, IfTooLong, IsTooLong, IsTooMany};
+ghost use Rattle.dc_cli.specs.Walking.{IsShorter, stepped, child_of, entered, GainsNames, GainsAll, GainsItem, Keeps, DirStops, ChildStops, IsLimit, DirPasses, ChildPasses, IsFull};
 
 use dc_attrs::Seen;
 use dc_fs::{ReadError, Store};
@@ -132,7 +133,9 @@ fn names_of<S: Store>(alloc: Global, source: &mut S, path: &Path) -> Result<List
     ensures ascending { IfOk result (IsStrictlySortedBy (slice_cmp nat_cmp)) }
     ensures shown { IfOk result (λ names. IsTrue (list_all is_shown names)) }
     ensures names { IfOk result (λ names. IfSome (S.tree source.old) (λ s. AreNames s path.now names)) }
+    ensures dir { OnOk result (IfSome (S.tree source.old) (λ s. IsDirAt s path.now)) }
     ensures changed { IfErr result (λ e. IsChanged e → IfSome (S.tree source.old) (λ s. seen s path.now ≡ seen_as.Dir → ⊥)) }
+    ensures limit { IfErr result (λ e. IsLimit e → ⊥) }
 {
     match source.list(alloc, path) {
         Ok(names) => Ok(names),
@@ -142,6 +145,36 @@ fn names_of<S: Store>(alloc: Global, source: &mut S, path: &Path) -> Result<List
         Err(ReadError::NotDir) => changed(alloc, path),
         Err(ReadError::IsDir) => changed(alloc, path),
         Err(ReadError::Short) => changed(alloc, path),
+    }
+}
+
+// Adds an item at the end.
+fn add_item(
+    alloc: Global,
+    items: &mut List<Item>,
+    rel: &Path,
+    dir: bool,
+    bytes: u64,
+) -> Result<(), ListError>
+    requires { length items.old ≤ 1048576 }
+    ensures ok { OnOk result (items.new ≡ items.old ++ (record { rel = rel.now; dir = dir; length = bytes }) ∷ []) }
+    ensures few { length items.new ≤ 1048576 }
+    ensures stays { OnErr result (items.new ≡ items.old) }
+    ensures full { IfErr result (λ e. IsFull e items.old) }
+    ensures stands { IfErr result (λ e. IsChanged e → ⊥) }
+    ensures no_fault { IsErrOf result ListError.Fault → ⊥ }
+{
+    if items.len() >= MAX_ITEMS {
+        return Err(ListError::TooMany);
+    }
+    let rel = rel.copy(alloc)?;
+    match items.push(Item {
+        rel,
+        dir,
+        length: bytes,
+    }) {
+        Ok(()) => Ok(()),
+        Err(_) => Err(ListError::Memory),
     }
 }
 
@@ -165,6 +198,7 @@ fn visit<S: Store>(
     ensures added { IfOk result (λ dir. GainsItem (S.tree source.old) place.now dir items.old items.new) }
     ensures stays { OnErr result (items.new ≡ items.old) }
     ensures stops { IfErr result (λ e. ChildStops e (S.tree source.old) place.now) }
+    ensures full { IfErr result (λ e. IsFull e items.old) }
 {
     match source.kind(&place.from) {
         Err(_) => Err(ListError::Fault),
@@ -178,35 +212,6 @@ fn visit<S: Store>(
         }
         Ok(Seen::Missing) => changed(alloc, &place.from),
         Ok(Seen::NotDir) => changed(alloc, &place.from),
-    }
-}
-
-// Adds an item at the end.
-fn add_item(
-    alloc: Global,
-    items: &mut List<Item>,
-    rel: &Path,
-    dir: bool,
-    bytes: u64,
-) -> Result<(), ListError>
-    requires { length items.old ≤ 1048576 }
-    ensures ok { OnOk result (items.new ≡ items.old ++ (record { rel = rel.now; dir = dir; length = bytes }) ∷ []) }
-    ensures few { length items.new ≤ 1048576 }
-    ensures stays { OnErr result (items.new ≡ items.old) }
-    ensures full { IsErrOf result ListError.TooMany → length items.old ≡ 1048576 }
-    ensures refused { IfErr result (λ e. (e ≡ ListError.TooMany) ⊎ (e ≡ ListError.Memory)) }
-{
-    if items.len() >= MAX_ITEMS {
-        return Err(ListError::TooMany);
-    }
-    let rel = rel.copy(alloc)?;
-    match items.push(Item {
-        rel,
-        dir,
-        length: bytes,
-    }) {
-        Ok(()) => Ok(()),
-        Err(_) => Err(ListError::Memory),
     }
 }
 
@@ -230,6 +235,7 @@ fn walk_child<S: Store>(
     ensures kept { Keeps (child_of dir.now name.now) items.old items.new }
     ensures added { OnOk result (GainsNames (name.now ∷ []) (S.tree source.old) dir.now items.old items.new) }
     ensures stops { IfErr result (λ e. ChildStops e (S.tree source.old) (child_of dir.now name.now)) }
+    ensures limit { IfErr result (λ e. ChildPasses e (S.tree source.old) dir.now name.now items.old items.new) }
 {
     let place = enter(alloc, dir, name)?;
     if visit(alloc, source, &place, items)? {
@@ -256,7 +262,9 @@ fn walk_dir<S: Store>(
     ensures cause { HasCause (S.faults source.old) (S.faults source.new) result ListError.Fault }
     ensures kept { Keeps dir.now items.old items.new }
     ensures added { OnOk result (GainsAll (S.tree source.old) dir.now items.old items.new) }
+    ensures dir { OnOk result (IfSome (S.tree source.old) (λ s. IsDirAt s dir.now.from)) }
     ensures stops { IfErr result (λ e. DirStops e (S.tree source.old) dir.now) }
+    ensures limit { IfErr result (λ e. DirPasses e (S.tree source.old) dir.now items.old items.new) }
 {
     let names = names_of(alloc, source, &dir.from)?;
     for name in names.as_slice() {
@@ -267,9 +275,10 @@ fn walk_dir<S: Store>(
 
 /// All that stands under a source directory, in path order, without what is hidden (Hadoop DistCp, `SimpleCopyListing`).
 ///
-/// A path is hidden where it has the name `.snapshot` below the source directory, which is no item itself. Each item has a
-/// place under the base too. An item's path in the source is tested before that in the target, and both before the item is
-/// counted.
+/// The source directory itself is no item, and a path is hidden where it has the name `.snapshot` below it. Each item has its
+/// place under the base, a directory in the target. `TooLong` names the first listed path whose path in the source, or else
+/// whose place in the target, passes the limits. `TooMany` comes at the first item after 1,048,576, after the tests of its
+/// path. `Changed` comes only where the store denies what it showed, or where the source is no directory.
 pub fn list_tree<S: Store>(
     alloc: Global,
     source: &mut S,
@@ -284,7 +293,10 @@ pub fn list_tree<S: Store>(
     ensures sources { IfOk result (λ items. IsTrue (list_all (fits_under root.now) items)) }
     ensures places { IfOk result (λ items. IsTrue (list_all (fits_under base.now) items)) }
     ensures listed { IfOk result (λ items. IfSome (S.tree source.old) (λ s. IsTree s → AreItems (listed s root.now) items)) }
+    ensures dir { OnOk result (IfSome (S.tree source.old) (λ s. IsDirAt s root.now)) }
     ensures changed { IfErr result (λ e. IsChanged e → IfSome (S.tree source.old) (λ s. IsTree s → IsDirAt s root.now → ⊥)) }
+    ensures too_long { IfErr result (λ e. IfTooLong e (λ parent name. IfSome (S.tree source.old) (λ s. IsTree s → IsTooLong (listed s root.now) root.now base.now parent name))) }
+    ensures too_many { IsErrOf result ListError.TooMany → IfSome (S.tree source.old) (λ s. IsTree s → IsTooMany (listed s root.now) root.now base.now) }
 {
     let from = root.copy(alloc)?;
     let to = base.copy(alloc)?;

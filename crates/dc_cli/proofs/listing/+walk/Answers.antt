@@ -1,6 +1,6 @@
 use Rattle.std.proofs.Common.{◌≡◌, sym, ◌∙◌, ap, subst, rules, arith, [], ◌∷◌, Bool, true, false, Option, IfSome, length, take}
 use Rattle.std.proofs.Math.Seq.{take-length}
-use Rattle.std.proofs.lemmas.Result.{on_ok_weaker, err_from_is_err_and}
+use Rattle.std.proofs.lemmas.Result.{on_ok_weaker, err_from_is_err_and, IfErr-weaker}
 use Rattle.std.specs.Cmp.Lexicographic.{slice_cmp}
 use Rattle.std.specs.List.{list_all}
 use Rattle.std.specs.List.Sorted.{IsStrictlySortedBy}
@@ -8,9 +8,10 @@ use Rattle.std.specs.Ordering.{nat_cmp}
 use Rattle.dc_path.specs.Paths.{Names}
 use Rattle.dc_attrs.specs.Trees.{Tree}
 use Rattle.dc_fs.specs.Looks.{is_shown, AreNames}
-use Rattle.dc_cli.specs.Walks.{GainsItem, GainsAll, GainsNames, ChildStops, child_of}
+use Rattle.dc_cli.specs.Walking.{GainsItem, GainsAll, GainsNames, ChildStops, DirPasses, ChildPasses, child_of}
 use Rattle.dc_cli.specs.declared.listing.Place.{Place}
 use Rattle.dc_cli.proofs.ListingLemmas.{file_added, dir_added, walking_step, walking_end, keeps_then, entered_is, name_at, shown_at, dir_denied, child_denied}
+use Rattle.dc_cli.proofs.ListingStops.{place_passes, item_passes, under_passes, loop_passes}
 use Rattle.dc_cli.proofs.listing.+walk.Goals as goal
 
 pub walk_child-returns-then-branch-clause-added : goal.walk_child-returns-then-branch-clause-added
@@ -91,3 +92,34 @@ walk_dir-returns-clause-added g t c =
     walking_end c.args.dir.now names (g.S.Store.tree c.args.source.now) c.args.items.now c.loop-name.items
     (subst (λ (ns : Names). IfSome (g.S.Store.tree c.args.source.now) (λ s. AreNames s c.args.dir.now.from ns)) (sym c.as_slice-name-items.ensures) c.in_ok-names.ensures.names)
     (subst (λ (ns : Names). GainsNames ns (g.S.Store.tree c.args.source.now) c.args.dir.now c.args.items.now c.loop-name.items) (ap (λ n. take n names) end ∙ take-length names) c.loop-name.invariant.walking.added)
+
+pub walk_child-returns-in_err-place-clause-limit : goal.walk_child-returns-in_err-place-clause-limit
+walk_child-returns-in_err-place-clause-limit g t c =
+    let p = err_from_is_err_and c.from_residual.result c.from_residual.ensures.1 in
+    rw (p.1, p.2) (place_passes _ (g.S.Store.tree c.args.source.now) c.args.dir.now c.args.name.now c.args.items.now c.requires.shown c.in_err-place.ensures.entered)
+
+pub walk_child-returns-in_err-visit-clause-limit : goal.walk_child-returns-in_err-visit-clause-limit
+walk_child-returns-in_err-visit-clause-limit g t c =
+    let p = err_from_is_err_and c.from_residual-in_err-visit.result c.from_residual-in_err-visit.ensures.1 in
+    rw (p.1, p.2) (item_passes _ (g.S.Store.tree c.args.source.now) c.args.dir.now c.in_ok-place.place c.args.name.now c.args.items.now c.visit.new.items c.requires.shown c.in_ok-place.ensures.entered c.in_err-visit.ensures.stays c.in_err-visit.ensures.full)
+
+pub walk_child-returns-then-branch-clause-limit : goal.walk_child-returns-then-branch-clause-limit
+walk_child-returns-then-branch-clause-limit g t c =
+    let told = g.S.Store.tree c.args.source.now in
+    let here = sym (entered_is c.args.dir.now c.in_ok-place.place c.args.name.now c.in_ok-place.ensures.entered) in
+    IfErr-weaker c.walk_dir.result _ _
+    (λ e h. under_passes e told c.args.dir.now c.args.name.now c.args.items.now c.visit.new.items c.walk_dir.new.items c.requires.shown
+    (subst (λ (p : Place). GainsItem told p true c.args.items.now c.visit.new.items) here (subst (λ (b : Bool). GainsItem told c.in_ok-place.place b c.args.items.now c.visit.new.items) c.if-branch.true c.in_ok-visit.ensures.added))
+    (subst (λ (p : Place). DirPasses e told p c.visit.new.items c.walk_dir.new.items) here (subst (λ (o : Option Tree). DirPasses e o c.in_ok-place.place c.visit.new.items c.walk_dir.new.items) c.visit.ensures.tree h)))
+    c.walk_dir.ensures.limit
+
+pub walk_dir-returns-in_err-walk_child-clause-limit : goal.walk_dir-returns-in_err-walk_child-clause-limit
+walk_dir-returns-in_err-walk_child-clause-limit g t c =
+    let p = err_from_is_err_and c.from_residual-in_err-walk_child.result c.from_residual-in_err-walk_child.ensures.1 in
+    let names = c.as_slice-name-items.result.now in
+    let here = name_at names c.loop-name.name-index c.name-item.result c.loop-name-test.true c.name-item.is in
+    rw (p.1, p.2) (loop_passes _ (g.S.Store.tree c.args.source.now) c.args.dir.now names c.loop-name.name-index c.name-item.result c.args.items.now c.loop-name.items c.walk_child.new.items
+    (subst (λ (ns : Names). IfSome (g.S.Store.tree c.args.source.now) (λ s. AreNames s c.args.dir.now.from ns)) (sym c.as_slice-name-items.ensures) c.in_ok-names.ensures.names)
+    (subst (IsStrictlySortedBy (slice_cmp nat_cmp)) (sym c.as_slice-name-items.ensures) c.in_ok-names.ensures.ascending)
+    c.loop-name-test.true here c.loop-name.invariant.walking.added
+    (subst (λ (o : Option Tree). ChildPasses c.in_err-walk_child.field-0.0 o c.args.dir.now c.name-item.result c.loop-name.items c.walk_child.new.items) c.loop-name.invariant.tree c.in_err-walk_child.ensures.limit))

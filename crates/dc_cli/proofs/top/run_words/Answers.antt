@@ -1,12 +1,31 @@
-use Rattle.std.proofs.Common.{◌≡◌, ◌∙◌, ◌∷◌, [], ℕ, List, ap, sym, subst, IfSome, Ok, arith, Some, slice_get, length, ◌≤◌}
+use Rattle.std.proofs.Common.{◌≡◌, ◌∙◌, ◌∷◌, [], ◌≤◌, arith, length, List, ap, sym, subst, IfSome, Ok}
 use Rattle.std.proofs.lemmas.Result.{on_ok_weaker}
 use Rattle.dc_path.specs.Paths.{Names}
 use Rattle.dc_attrs.specs.Trees.{IsTree}
 use Rattle.dc_cli.specs.Effects.{GainsEffects}
 use Rattle.dc_cli.specs.Listed.{listed}
 use Rattle.dc_cli.specs.Result.{IsResult}
+use Rattle.dc_cli.specs.Words.{Asks}
 use Rattle.dc_cli.proofs.WordLemmas.{two_paths, asked_same}
 use Rattle.dc_cli.proofs.top.run_words.Goals as goal
 
 pub returns-clause-asked : goal.returns-clause-asked
-returns-clause-asked g c = ?
+returns-clause-asked g c =
+    let pair = two_paths c.in-Ok.paths c.in-Some-Some.root.now c.in-Some-Some.place.now (sym c.in-Some-Some.ensures) (sym c.in-Some-Some.ensures') (omega (arith, c.len.ensures, c.if-len-gt2.false)) in
+    on_ok_weaker c.run.result (λ _. (c.in-Some-Some.root.now, c.in-Some-Some.place.now, c.in-Ok.ensures ∙ ap Ok pair)) c.run.ensures.swept
+
+pub returns-clause-result : goal.returns-clause-result
+returns-clause-result g c =
+    let pair = two_paths c.in-Ok.paths c.in-Some-Some.root.now c.in-Some-Some.place.now (sym c.in-Some-Some.ensures) (sym c.in-Some-Some.ensures') (omega (arith, c.len.ensures, c.if-len-gt2.false)) in
+    on_ok_weaker c.run.result (λ p root place asks.
+      let both = asked_same c.args.words.now c.in-Ok.paths c.in-Some-Some.root.now c.in-Some-Some.place.now root place c.in-Ok.ensures pair asks in
+      subst (λ (r : Names). IfSome (g.S.Store.tree c.args.source.now) (λ s. IsTree s → IfSome (g.T.Store.tree c.args.target.now) (λ t. IsTree t → IsResult (listed s r) t place (g.T.Store.tree c.run.new.target)))) both.0
+      (subst (λ (q : Names). IfSome (g.S.Store.tree c.args.source.now) (λ s. IsTree s → IfSome (g.T.Store.tree c.args.target.now) (λ t. IsTree t → IsResult (listed s c.in-Some-Some.root.now) t q (g.T.Store.tree c.run.new.target)))) both.1 p)) c.run.ensures.result
+
+pub returns-clause-landed : goal.returns-clause-landed
+returns-clause-landed g c =
+    let pair = two_paths c.in-Ok.paths c.in-Some-Some.root.now c.in-Some-Some.place.now (sym c.in-Some-Some.ensures) (sym c.in-Some-Some.ensures') (omega (arith, c.len.ensures, c.if-len-gt2.false)) in
+    on_ok_weaker c.run.result (λ p root place asks.
+      let both = asked_same c.args.words.now c.in-Ok.paths c.in-Some-Some.root.now c.in-Some-Some.place.now root place c.in-Ok.ensures pair asks in
+      subst (λ (r : Names). IfSome (g.S.Store.tree c.args.source.now) (λ s. IsTree s → IfSome (g.T.Store.tree c.args.target.now) (λ t. IsTree t → GainsEffects (listed s r) place (g.T.Store.rest c.args.target.now).landed (g.T.Store.rest c.run.new.target).landed))) both.0
+      (subst (λ (q : Names). IfSome (g.S.Store.tree c.args.source.now) (λ s. IsTree s → IfSome (g.T.Store.tree c.args.target.now) (λ t. IsTree t → GainsEffects (listed s c.in-Some-Some.root.now) q (g.T.Store.rest c.args.target.now).landed (g.T.Store.rest c.run.new.target).landed))) both.1 p)) c.run.ensures.landed

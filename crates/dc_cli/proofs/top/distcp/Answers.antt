@@ -1,0 +1,19 @@
+use Rattle.std.proofs.Common.{◌≡◌, ◌∙◌, sym, IfSome}
+use Rattle.dc_path.specs.Paths.{Names}
+use Rattle.dc_attrs.specs.Trees.{IsTree}
+use Rattle.dc_cli.specs.Effects.{GainsEffects}
+use Rattle.dc_cli.specs.Listed.{listed}
+use Rattle.dc_cli.specs.Result.{IsResult}
+use Rattle.dc_cli.specs.Words.{Asks}
+use Rattle.dc_cli.proofs.RunLemmas.{ended_done}
+use Rattle.dc_cli.proofs.top.distcp.Goals as goal
+
+pub returns-clause-result : goal.returns-clause-result
+returns-clause-result g c = λ ended.
+    ended_done ((root place : Names) → Asks c.args.words.now root place → IfSome (g.S.Store.tree c.args.source.now) (λ s. IsTree s → IfSome (g.T.Store.tree c.args.target.now) (λ t. IsTree t → IsResult (listed s root) t place (g.T.Store.tree c.run_words-ran.new.target))))
+    c.run_words-ran.result c.run_words-ran.ensures.result c.run_words-ran.ensures.stops (sym c.unprinted-answer.ensures.outcome ∙ ended)
+
+pub returns-clause-landed : goal.returns-clause-landed
+returns-clause-landed g c = λ ended.
+    ended_done ((root place : Names) → Asks c.args.words.now root place → IfSome (g.S.Store.tree c.args.source.now) (λ s. IsTree s → IfSome (g.T.Store.tree c.args.target.now) (λ t. IsTree t → GainsEffects (listed s root) place (g.T.Store.rest c.args.target.now).landed (g.T.Store.rest c.run_words-ran.new.target).landed)))
+    c.run_words-ran.result c.run_words-ran.ensures.landed c.run_words-ran.ensures.stops (sym c.unprinted-answer.ensures.outcome ∙ ended)
