@@ -3,6 +3,7 @@
 
 mod commit;
 mod copying;
+mod drills;
 mod engine;
 mod listing;
 mod outcome;
@@ -12,6 +13,7 @@ mod survey;
 mod top;
 mod words;
 
+pub use drills::{Drilled, MAX_COUNT, MIN_COUNT, drill, read_number};
 pub use outcome::{Answer, BadTarget, Counts, OptionError, Outcome, Phase, TooManyOf};
 pub use output::{print, status};
 pub use stdout::StdSink;

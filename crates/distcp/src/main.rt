@@ -1,0 +1,109 @@
+//! The program `distcp`: what its words ask for, and the exit status that it ends with.
+#![tactic(auto)]
+
+ghost use Rattle.std.specs.Prelude.{◌≡◌, ◌≢◌, ◌≤◌, ◌++◌};
+ghost use Rattle.std.specs.Option.{option_map};
+ghost use Rattle.dc_fs.specs.Causes.{Rose};
+ghost use Rattle.dc_cli.specs.Output.{lines};
+ghost use Rattle.dc_cli.specs.declared.outcome.Counts.{Counts};
+ghost use Rattle.dc_cli.specs.declared.outcome.Outcome.{Outcome};
+
+mod words;
+
+use dc_cli::{Drilled, StdSink, drill};
+use dc_fs::Sink;
+use std::alloc::Global;
+use std::io::ErrorKind;
+use std::process::ExitCode;
+use std::rt::Env;
+use std::thread::Threads;
+use std::{env, io};
+use words::{Job, read_job};
+
+/// What `--help` prints.
+const USAGE: &str = "usage: distcp drill SEED COUNT
+
+Copies a directory of COUNT small files, 2 to 200000, between two stores in memory, and prints the counters.
+SEED, a number of 64 bits, decides the lengths and the bytes of the files.
+
+  --help     prints this text
+  --version  prints the version
+";
+
+/// What `--version` prints.
+const VERSION: &str = "distcp 0.1.0\n";
+
+/// All is done and printed.
+const DONE: u8 = 0;
+
+/// Memory ran out.
+const NO_MEMORY: u8 = 24;
+
+/// A run ended in another way than by its commit.
+const NOT_REACHED: u8 = 25;
+
+/// The standard output did not take all lines.
+const UNPRINTED: u8 = 28;
+
+/// The words ask for nothing that the program does.
+const REFUSED: u8 = 255;
+
+// Prints a text and answers the exit status, which is `UNPRINTED` where the sink does not take the text.
+fn say<O: Sink>(out: &mut O, text: &str, status: u8) -> u8 {
+    match out.write(text.as_bytes()) {
+        Ok(()) => status,
+        Err(_) => UNPRINTED,
+    }
+}
+
+// Runs a drill and answers the exit status.
+fn run_drill<R: Threads + Sync, O: Sink>(
+    rt: &R,
+    alloc: Global,
+    seed: u64,
+    count: u32,
+    out: &mut O,
+) -> u8 {
+    match drill(rt, alloc, seed, count, out) {
+        Drilled::Reached => DONE,
+        Drilled::NotReached => NOT_REACHED,
+        Drilled::BadCount => say(out, "distcp: bad drill\n", REFUSED),
+        Drilled::Unprinted => UNPRINTED,
+        Drilled::Memory => NO_MEMORY,
+    }
+}
+
+// Does what the words ask for and answers the exit status.
+fn run_job<R: Threads + Sync, O: Sink>(rt: &R, alloc: Global, job: Job, out: &mut O) -> u8 {
+    match job {
+        Job::Help => say(out, USAGE, DONE),
+        Job::Version => say(out, VERSION, DONE),
+        Job::Drill { seed, count } => run_drill(rt, alloc, seed, count, out),
+        Job::BadDrill => say(out, "distcp: bad drill\n", REFUSED),
+        Job::Unbuilt => say(out, "distcp: only drill is built\n", REFUSED),
+    }
+}
+
+// The words of the command line, without the program's name.
+fn read_words<R: Env + AllocGlobal>(rt: &R) -> io::Result<Vec<String>> {
+    let mut words = env::args(rt)?;
+    words.next();
+    Ok(words.collect(rt.alloc())?)
+}
+
+// Says why there are no words, and answers the exit status.
+fn no_words<O: Sink>(out: &mut O, kind: ErrorKind) -> u8 {
+    match kind {
+        ErrorKind::OutOfMemory => say(out, "distcp: no memory\n", NO_MEMORY),
+        _ => say(out, "distcp: bad word\n", REFUSED),
+    }
+}
+
+fn main(rt: HostRuntime) -> ExitCode {
+    let mut out = StdSink::new(&rt);
+    let status = match read_words(&rt) {
+        Ok(words) => run_job(&rt, rt.alloc(), read_job(words.as_slice()), &mut out),
+        Err(error) => no_words(&mut out, error.kind()),
+    };
+    ExitCode::from(status)
+}

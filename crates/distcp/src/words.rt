@@ -1,0 +1,43 @@
+//! What the words of the command line ask for.
+#![tactic(auto)]
+
+use dc_cli::read_number;
+
+/// What the program is asked to do.
+#[derive(Clone, Copy, Debug, PartialEq, Eq)]
+pub enum Job {
+    /// Print how it is used.
+    Help,
+    /// Print its version.
+    Version,
+    /// Run a drill.
+    Drill { seed: u64, count: u32 },
+    /// A drill whose words are not two numbers.
+    BadDrill,
+    /// What is not built.
+    Unbuilt,
+}
+
+// What the words after `drill` ask for.
+fn read_drill(words: &[String]) -> Job {
+    let [seed, count] = words else {
+        return Job::BadDrill;
+    };
+    let (Some(seed), Some(count)) = (read_number(seed.as_str()), read_number(count.as_str())) else {
+        return Job::BadDrill;
+    };
+    match u32::try_from(count) {
+        Ok(count) => Job::Drill { seed, count },
+        Err(_) => Job::BadDrill,
+    }
+}
+
+/// What words ask for.
+pub fn read_job(words: &[String]) -> Job {
+    match words {
+        [first, rest @ ..] if first.as_str() == "drill" => read_drill(rest),
+        [word] if word.as_str() == "--help" => Job::Help,
+        [word] if word.as_str() == "--version" => Job::Version,
+        _ => Job::Unbuilt,
+    }
+}
