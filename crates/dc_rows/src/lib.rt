@@ -1,0 +1,15 @@
+//! Worked examples of the calls below the top call: trees, sources, targets and sinks in memory, and attributes.
+#![tactic(auto)]
+
+#[cfg(test)]
+mod attributes;
+#[cfg(test)]
+mod fixtures;
+#[cfg(test)]
+mod sinks;
+#[cfg(test)]
+mod sources;
+#[cfg(test)]
+mod targets;
+#[cfg(test)]
+mod trees;
