@@ -1,11 +1,10 @@
 -- Trees: what a look at them shows, and what stands under what.
-use Rattle.std.proofs.Common.{◌≡◌, ℕ, List, [], ◌∷◌, ◌++◌, length, Bool, true, false, cond, Option, Some, None, refl, sym, ◌∙◌, ap, subst, append_assoc}
+use Rattle.std.proofs.Common.{◌≡◌, ℕ, List, [], ◌∷◌, ◌++◌, length, true, Option, Some, None, refl, sym, ◌∙◌, ap, subst, append_assoc}
 use Rattle.std.proofs.lemmas.List.{append-nil}
 use Rattle.std.specs.Option.{is_some}
-use Rattle.dc_path.specs.Paths.{Names, same_path, cut}
-use Rattle.dc_path.proofs.PathLemmas.{Last, last_case, empty, ended}
+use Rattle.dc_path.specs.Paths.{Names}
 use Rattle.dc_attrs.specs.Attributes.{Attributes}
-use Rattle.dc_attrs.specs.Trees.{Node, Dir, File, Tree, IsDirAt, IsThere, IsTree, seen, seen_from, seen_on, seen_node}
+use Rattle.dc_attrs.specs.Trees.{Node, Dir, File, Tree, IsDirAt, IsTree, seen_from, seen_on, seen_node}
 use Rattle.dc_attrs.specs.declared.shown.Seen.{Seen}
 use Rattle.dc_attrs.specs.declared.shown.Seen.TheVariants as seen_as
 

@@ -3,8 +3,8 @@ use Rattle.std.specs.Prelude.{◌≡◌, ℕ, Bool, true, false, cond, List, [],
 use Rattle.std.specs.Option.{is_some}
 use Rattle.std.specs.List.{list_any}
 use Rattle.dc_path.specs.Names.{same_name}
-use Rattle.dc_path.specs.Paths.{Names, same_path, cut, at_cut, is_under}
-use Rattle.dc_attrs.specs.Attributes.{Attributes, default_file, default_dir}
+use Rattle.dc_path.specs.Paths.{Names, same_path, cut, at_cut}
+use Rattle.dc_attrs.specs.Attributes.{Attributes, default_dir}
 use Rattle.dc_attrs.specs.declared.shown.Seen.{Seen}
 use Rattle.dc_attrs.specs.declared.shown.Seen.TheVariants as seen_as
 

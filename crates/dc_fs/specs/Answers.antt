@@ -2,7 +2,7 @@
 use Rattle.std.specs.Prelude.{◌≡◌, ◌⊎◌, ℕ, Bool, true, false, nat_lt, Option, Some, None, Result, Ok, Err, ⊤}
 use Rattle.std.specs.Option.{option_map}
 use Rattle.dc_path.specs.Paths.{Names}
-use Rattle.dc_attrs.specs.Trees.{Tree, seen}
+use Rattle.dc_attrs.specs.Trees.{Tree}
 use Rattle.dc_attrs.specs.Refusals.{refused_put, refused_extend}
 use Rattle.dc_attrs.specs.declared.shown.Seen.{Seen}
 use Rattle.dc_attrs.specs.declared.shown.Seen.TheVariants as seen_as

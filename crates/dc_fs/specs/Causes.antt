@@ -1,5 +1,5 @@
 -- Counts that show a cause: of 64 bits, standing still at the last value.
-use Rattle.std.specs.Prelude.{◌≡◌, ℕ, ◌+◌, ◌-◌, ◌^◌, ◌≤◌, min, Result, IsErrOf}
+use Rattle.std.specs.Prelude.{ℕ, ◌+◌, ◌-◌, ◌^◌, ◌≤◌, min, Result, IsErrOf}
 
 -- the sum of two counts, which stops at the last value
 abbrev pub counted : ℕ → ℕ → ℕ

@@ -5,19 +5,11 @@ use Rattle.std.proofs.Math.Path.{fun_ext}
 use Rattle.std.proofs.lemmas.List.{append-nil}
 use Rattle.dc_path.specs.Paths.{Names, same_path}
 use Rattle.dc_path.proofs.PathLemmas.{same_path-true}
-use Rattle.dc_attrs.specs.Attributes.{default_file, default_dir, fits_file, fits_dir}
+use Rattle.dc_attrs.specs.Attributes.{default_dir}
 use Rattle.dc_attrs.specs.Trees.{Node, Dir, Tree, with_node, updated, made}
 use Rattle.dc_attrs.specs.Refusals.{refused_dir, refused_new}
 use Rattle.dc_attrs.specs.declared.refusals.TreeError.{TreeError}
 use Rattle.dc_fs.specs.Temporaries.{all_told}
-
-pub default_file_fits : fits_file default_file ≡ true
-unfolding default_file
-default_file_fits = refl
-
-pub default_dir_fits : fits_dir default_dir ≡ true
-unfolding default_dir
-default_dir_fits = refl
 
 -- ---- a directory is made where nothing stands
 nothing_there : (o : Option Node) (why : Option TreeError) → refused_new o why ≡ None → o ≡ None

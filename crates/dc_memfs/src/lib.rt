@@ -13,3 +13,6 @@ pub use fails::{Fail, Fails, Which};
 pub use sink::{MAX_SINK_BYTES, MemSink};
 pub use source::MemSource;
 pub use target::MemTarget;
+
+#[cfg(test)]
+mod tests;

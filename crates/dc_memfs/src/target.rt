@@ -108,6 +108,7 @@ fn gathered(alloc: Global, parts: List<MemTemp>) -> Result<Vec<u8>, OutOfMemory>
 }
 
 // Makes the change of a landing.
+#[tactic(auto, using(dc_tree::proofs::FittingLemmas::default_file_fits))]
 fn land_bytes(
     alloc: Global,
     tree: &mut MemTree,

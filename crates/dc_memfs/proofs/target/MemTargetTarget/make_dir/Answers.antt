@@ -1,7 +1,8 @@
 use Rattle.std.proofs.Common.{◌∙◌, ap, Some}
 use Rattle.dc_attrs.specs.Trees.{Tree}
 use Rattle.dc_tree.specs.Arena.{tree_of}
-use Rattle.dc_memfs.proofs.ChangeLemmas.{default_dir_fits, with_dir}
+use Rattle.dc_tree.proofs.FittingLemmas.{default_dir_fits}
+use Rattle.dc_memfs.proofs.ChangeLemmas.{with_dir}
 use Rattle.dc_memfs.proofs.target.MemTargetTarget.make_dir.Goals as goal
 
 pub make_dir-requires : goal.make_dir-requires
