@@ -9,3 +9,4 @@ pub mod SurveyLemmas
 pub mod ResultLemmas
 pub mod RunLemmas
 pub mod WordLemmas
+pub mod DrillLemmas

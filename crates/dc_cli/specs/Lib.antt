@@ -13,3 +13,5 @@ pub mod Pieces
 pub mod Words
 pub mod Checks
 pub mod Runs
+pub mod Drills
+pub mod DrillSteps
