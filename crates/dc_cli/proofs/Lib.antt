@@ -11,3 +11,4 @@ pub mod RunLemmas
 pub mod WordLemmas
 pub mod CauseLemmas
 pub mod VerdictLemmas
+pub mod DrillLemmas

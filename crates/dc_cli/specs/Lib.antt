@@ -14,3 +14,5 @@ pub mod Words
 pub mod Checks
 pub mod Runs
 pub mod Verdict
+pub mod Drills
+pub mod DrillSteps

@@ -1,11 +1,21 @@
 //! The drill: a run over stores in memory, with a source that two numbers make.
 #![tactic(auto)]
 
-ghost use Rattle.std.specs.Prelude.{◌≡◌, ◌≤◌, ◌<◌, ◌⊎◌, ◌↔◌, ◌++◌, false};
+ghost use Rattle.std.specs.Prelude.{◌≡◌, ◌%◌, ◌≢◌, ◌≤◌, ◌<◌, ◌⊎◌, ◌↔◌, ◌++◌, ◌∷◌, [], true, false, codes, map, min, Ok, IfOk, OnOk};
+ghost use Rattle.std.specs.Char.{is_ascii_digit};
+ghost use Rattle.std.specs.List.{list_all, range_with_len};
+ghost use Rattle.std.specs.Fmt.{decimal};
 ghost use Rattle.std.specs.Option.{option_map};
+ghost use Rattle.dc_path.specs.Reading.{path_from};
+ghost use Rattle.dc_attrs.specs.Attributes.{default_file};
+ghost use Rattle.dc_attrs.specs.Trees.{File, with_node};
 ghost use Rattle.dc_fs.specs.Causes.{Rose};
+ghost use Rattle.dc_tree.specs.Arena.{tree_of};
 ghost use Rattle.dc_cli.specs.Checks.{is_committed};
-ghost use Rattle.dc_cli.specs.Effects.{none_counted};
+ghost use Rattle.dc_cli.specs.Drills.{dir_path, drill_source, drill_target, drill_tree, file_bytes, file_path, number_from};
+ghost use Rattle.dc_cli.specs.DrillSteps.{way_tree, with_dir, with_dirs, with_files};
+ghost use Rattle.dc_cli.specs.Effects.{AreCounts, none_counted};
+ghost use Rattle.dc_cli.specs.Listed.{listed};
 ghost use Rattle.dc_cli.specs.Output.{lines};
 ghost use Rattle.dc_cli.specs.declared.outcome.Counts.{Counts};
 ghost use Rattle.dc_cli.specs.declared.outcome.Outcome.{Outcome};
@@ -49,31 +59,45 @@ pub enum Drilled {
     Memory,
 }
 
+// Whether each byte is a decimal digit.
+fn are_digits(bytes: &[u8]) -> bool
+    ensures { result ≡ list_all is_ascii_digit bytes.now }
+{
+    bytes.iter().all(|byte| byte.is_ascii_digit())
+}
+
 /// The number of 64 bits that decimal digits write, leading zeros allowed; `None` for every other text.
-pub fn read_number(text: &str) -> Option<u64> {
-    if !text.bytes().all(|byte| byte.is_ascii_digit()) {
+pub fn read_number(text: &str) -> Option<u64>
+    ensures { result ≡ number_from text.now }
+{
+    if !are_digits(text.as_bytes()) {
         return None;
     }
     text.parse().ok()
 }
 
 // The name that is a letter and a number.
-fn numbered(alloc: Global, letter: &str, number: u32) -> Result<Name, OutOfMemory> {
+fn numbered(alloc: Global, letter: &str, number: u32) -> Result<Name, OutOfMemory>
+    ensures { IfOk result (λ name. name ≡ letter.now ++ decimal number) }
+{
     let text = format!(in alloc; "{letter}{number}")?;
     Name::read(alloc, text.as_str()).map_err(|_| OutOfMemory)
 }
 
-// The path of a name in a directory.
-fn below(alloc: Global, dir: &Path, letter: &str, number: u32) -> Result<Path, OutOfMemory> {
+// The path of such a name in a directory.
+fn below(alloc: Global, dir: &Path, letter: &str, number: u32) -> Result<Path, OutOfMemory>
+    ensures { IfOk result (λ path. path ≡ dir.now ++ (letter.now ++ decimal number) ∷ []) }
+{
     let name = numbered(alloc, letter, number)?;
     dir.child(alloc, &name).map_err(|_| OutOfMemory)
 }
 
-// The bytes of a file.
-fn content(alloc: Global, seed: u64, number: u32) -> Result<List<u8>, OutOfMemory> {
-    let number = u64::from(number);
-    let length = seed.wrapping_add(7 * number) % 100;
-    let first = seed.wrapping_add(number);
+// The bytes of the file with a number.
+fn content(alloc: Global, seed: u64, number: u32) -> Result<List<u8>, OutOfMemory>
+    ensures { IfOk result (λ bytes. bytes ≡ file_bytes seed number) }
+{
+    let length = seed.wrapping_add(7 * u64::from(number)) % 100;
+    let first = seed.wrapping_add(u64::from(number));
     let mut bytes = Vec::with_capacity(alloc, length as usize)?;
     for place in 0..length {
         bytes.push((first.wrapping_add(place) % 256) as u8)?;
@@ -82,32 +106,47 @@ fn content(alloc: Global, seed: u64, number: u32) -> Result<List<u8>, OutOfMemor
 }
 
 // The path that a text reads as.
-fn path(alloc: Global, text: &str) -> Result<Path, OutOfMemory> {
-    Path::read(alloc, text).map_err(|_| OutOfMemory)
+fn path(alloc: Global, text: &str) -> Result<Path, OutOfMemory>
+    ensures { IfOk result (λ path. path_from text.now ≡ Ok path) }
+{
+    match Path::read(alloc, text) {
+        Ok(path) => Ok(path),
+        Err(_) => Err(OutOfMemory),
+    }
 }
 
 // Makes a default directory.
-fn add_dir(alloc: Global, tree: &mut MemTree, path: &Path) -> Result<(), OutOfMemory> {
+#[tactic(auto, using(dc_tree::proofs::FittingLemmas::default_dir_fits))]
+fn add_dir(alloc: Global, tree: &mut MemTree, path: &Path) -> Result<(), OutOfMemory>
+    ensures { OnOk result (tree_of tree.new ≡ with_dir path.now (tree_of tree.old)) }
+{
     tree.make_dir(alloc, path, Attrs::default_dir(alloc))
         .map_err(|_| OutOfMemory)
 }
 
-// Makes the directory that is copied, and those on the way to it.
-fn add_way(alloc: Global, tree: &mut MemTree) -> Result<Path, OutOfMemory> {
-    add_dir(alloc, tree, &path(alloc, "/src")?)?;
-    add_dir(alloc, tree, &path(alloc, "/src/.snapshot")?)?;
-    let snapshot = path(alloc, SOURCE)?;
-    add_dir(alloc, tree, &snapshot)?;
-    Ok(snapshot)
+// The tree of the directory that is copied and of those above it, all with nothing else in them.
+fn new_tree(alloc: Global, snapshot: &Path) -> Result<MemTree, OutOfMemory>
+    requires { snapshot.now ≡ drill_source }
+    ensures { IfOk result (λ tree. tree_of tree ≡ way_tree) }
+{
+    let mut tree = MemTree::new(alloc)?;
+    add_dir(alloc, &mut tree, &path(alloc, "/src")?)?;
+    add_dir(alloc, &mut tree, &path(alloc, "/src/.snapshot")?)?;
+    add_dir(alloc, &mut tree, snapshot)?;
+    Ok(tree)
 }
 
-// Makes the directories in which files stand.
+// Makes the directories in which files stand, and answers their paths.
 fn add_dirs(
     alloc: Global,
     tree: &mut MemTree,
     snapshot: &Path,
     count: u32,
-) -> Result<List<Path>, OutOfMemory> {
+) -> Result<List<Path>, OutOfMemory>
+    requires { snapshot.now ≡ drill_source }
+    ensures paths { IfOk result (λ dirs. dirs ≡ map dir_path (range_with_len 0 (min count 4))) }
+    ensures tree { OnOk result (tree_of tree.new ≡ with_dirs (min count 4) (tree_of tree.old)) }
+{
     let mut dirs = List::new(alloc);
     for number in 0..count.min(SPREAD) {
         let dir = below(alloc, snapshot, "d", number)?;
@@ -117,14 +156,18 @@ fn add_dirs(
     Ok(dirs)
 }
 
-// Puts a file into a directory.
+// Puts the file with a number into its directory.
+#[tactic(auto, using(dc_tree::proofs::FittingLemmas::default_file_fits))]
 fn add_file(
     alloc: Global,
     tree: &mut MemTree,
     dir: &Path,
     seed: u64,
     number: u32,
-) -> Result<(), OutOfMemory> {
+) -> Result<(), OutOfMemory>
+    requires { dir.now ≡ dir_path (number % 4) }
+    ensures { OnOk result (tree_of tree.new ≡ with_node (tree_of tree.old) (file_path number) (File (file_bytes seed number) default_file)) }
+{
     let path = below(alloc, dir, "f", number)?;
     let bytes = content(alloc, seed, number)?;
     tree.put(alloc, &path, bytes, Attrs::default_file(alloc))
@@ -138,7 +181,10 @@ fn add_files(
     dirs: &[Path],
     seed: u64,
     count: u32,
-) -> Result<(), OutOfMemory> {
+) -> Result<(), OutOfMemory>
+    requires { dirs.now ≡ map dir_path (range_with_len 0 (min count 4)) }
+    ensures { OnOk result (tree_of tree.new ≡ with_files seed count (tree_of tree.old)) }
+{
     for number in 0..count {
         let Some(dir) = dirs.get((number % SPREAD) as usize) else {
             return Err(OutOfMemory);
@@ -149,45 +195,80 @@ fn add_files(
 }
 
 // The tree that is copied.
-fn build(alloc: Global, seed: u64, count: u32) -> Result<MemTree, OutOfMemory> {
-    let mut tree = MemTree::new(alloc)?;
-    let snapshot = add_way(alloc, &mut tree)?;
+fn build(alloc: Global, seed: u64, count: u32) -> Result<MemTree, OutOfMemory>
+    ensures { IfOk result (λ tree. tree_of tree ≡ drill_tree seed count) }
+{
+    let snapshot = path(alloc, SOURCE)?;
+    let mut tree = new_tree(alloc, &snapshot)?;
     let dirs = add_dirs(alloc, &mut tree, &snapshot, count)?;
     add_files(alloc, &mut tree, dirs.as_slice(), seed, count)?;
     Ok(tree)
 }
 
 // The words of the run.
-fn words(alloc: Global) -> Result<List<Text>, OutOfMemory> {
+fn run_words(alloc: Global) -> Result<List<Text>, OutOfMemory>
+    ensures { IfOk result (λ words. words ≡ codes "/src/.snapshot/s1" ∷ codes "/dst" ∷ []) }
+{
+    let source = Text::read(alloc, SOURCE)?;
+    let target = Text::read(alloc, TARGET)?;
     let mut words = List::new(alloc);
-    for word in [SOURCE, TARGET] {
-        let text = Text::read(alloc, word)?;
-        words.push(text).map_err(|_| OutOfMemory)?;
-    }
+    words.push(source).map_err(|_| OutOfMemory)?;
+    words.push(target).map_err(|_| OutOfMemory)?;
     Ok(words)
 }
 
-// Runs over stores in memory, and prints.
-fn run<R: Threads + Sync, O: Sink>(
-    rt: &R,
-    alloc: Global,
-    seed: u64,
-    count: u32,
-    out: &mut O,
-) -> Result<Answer, OutOfMemory> {
-    let tree = build(alloc, seed, count)?;
-    let empty = MemTree::new(alloc)?;
-    let words = words(alloc)?;
-    let own = Fails::none(alloc);
-    let forks = Fails::none(alloc);
-    let mut source = MemSource::new(&tree, &own, &forks);
-    let mut target = MemTarget::new(alloc, empty, Fails::none(alloc), Fails::none(alloc));
-    let answer = distcp(rt, alloc, words.as_slice(), &mut source, &mut target, out);
-    Ok(answer)
+/// What a drill needs memory for before its run.
+#[derive(Drop)]
+struct Setup {
+    /// The tree that is copied.
+    source: MemTree,
+    /// The tree that is copied to.
+    target: MemTree,
+    /// The words of the run.
+    words: List<Text>,
 }
 
-// The answer of a drill whose stores there is no memory for.
-fn no_memory<O: Sink>(out: &mut O) -> Answer {
+// Makes ready what the run needs.
+fn set_up(alloc: Global, seed: u64, count: u32) -> Result<Setup, OutOfMemory>
+    ensures source { IfOk result (λ setup. tree_of setup.source ≡ drill_tree seed count) }
+    ensures words { IfOk result (λ setup. setup.words ≡ codes "/src/.snapshot/s1" ∷ codes "/dst" ∷ []) }
+{
+    Ok(Setup {
+        source: build(alloc, seed, count)?,
+        target: MemTree::new(alloc)?,
+        words: run_words(alloc)?,
+    })
+}
+
+// Runs over stores in memory, and prints.
+fn run_setup<R: Threads + Sync, O: Sink>(rt: &R, alloc: Global, setup: Setup, out: &mut O) -> Answer
+    requires { setup.words ≡ codes "/src/.snapshot/s1" ∷ codes "/dst" ∷ [] }
+    ensures counts { result.outcome ≡ Outcome.Committed → AreCounts (listed (tree_of setup.source) drill_source) drill_target result.counts }
+    ensures printed { result.printed ≡ true → O.bytes out.new ≡ option_map (λ old. old ++ lines result.outcome result.counts) (O.bytes out.old) }
+    ensures no_counts { is_committed result.outcome ≡ false → result.counts ≡ none_counted }
+    ensures later { O.faults out.old ≤ O.faults out.new }
+    ensures cause { result.printed ≡ false → Rose (O.faults out.old) (O.faults out.new) }
+{
+    let own = Fails::none(alloc);
+    let forks = Fails::none(alloc);
+    let Setup {
+        source: tree,
+        target: empty,
+        words,
+    } = setup;
+    let mut source = MemSource::new(&tree, &own, &forks);
+    let mut target = MemTarget::new(alloc, empty, Fails::none(alloc), Fails::none(alloc));
+    distcp(rt, alloc, words.as_slice(), &mut source, &mut target, out)
+}
+
+// Prints that there is no memory for what the run needs.
+fn print_no_memory<O: Sink>(out: &mut O) -> Answer
+    ensures outcome { result.outcome ≡ Outcome.Memory }
+    ensures printed { result.printed ≡ true → O.bytes out.new ≡ option_map (λ old. old ++ lines Outcome.Memory none_counted) (O.bytes out.old) }
+    ensures counts { result.counts ≡ none_counted }
+    ensures later { O.faults out.old ≤ O.faults out.new }
+    ensures cause { result.printed ≡ false → Rose (O.faults out.old) (O.faults out.new) }
+{
     let mut answer = Answer {
         outcome: Outcome::Memory,
         counts: Counts::NONE,
@@ -199,7 +280,13 @@ fn no_memory<O: Sink>(out: &mut O) -> Answer {
 }
 
 // What a run's answer makes of a drill.
-fn ended(answer: &Answer) -> Drilled {
+fn drilled_by(answer: &Answer) -> Drilled
+    ensures reached { result ≡ Drilled.Reached → (answer.now.outcome ≡ Outcome.Committed) × (answer.now.printed ≡ true) }
+    ensures not_reached { result ≡ Drilled.NotReached → (is_committed answer.now.outcome ≡ false) × (answer.now.printed ≡ true) }
+    ensures memory { result ≡ Drilled.Memory → (answer.now.outcome ≡ Outcome.Memory) × (answer.now.printed ≡ true) }
+    ensures unprinted { result ≡ Drilled.Unprinted → answer.now.printed ≡ false }
+    ensures done { result ≢ Drilled.BadCount }
+{
     match &answer.outcome {
         _ if !answer.printed => Drilled::Unprinted,
         Outcome::Committed => Drilled::Reached,
@@ -208,20 +295,34 @@ fn ended(answer: &Answer) -> Drilled {
     }
 }
 
-/// Copies a directory of `count` small files between two stores in memory, and prints what a run prints.
+/// Copies a directory of `count` small files between two stores in memory, and prints what the run prints.
+///
+/// The files are spread over four directories at most. The seed decides their lengths, of at most 99 bytes, and their
+/// bytes. It takes memory for both trees at once.
 pub fn drill<R: Threads + Sync, O: Sink>(
     rt: &R,
     alloc: Global,
     seed: u64,
     count: u32,
     out: &mut O,
-) -> Drilled {
+) -> Drilled
+    ensures bad_count { (result ≡ Drilled.BadCount) ↔ ((count < 2) ⊎ (200000 < count)) }
+    ensures untouched { result ≡ Drilled.BadCount → out.new ≡ out.old }
+
+    // A drill that is reached has printed the counters of its files and directories; one that is not, why not.
+    ensures reached { result ≡ Drilled.Reached → (counts : Counts) × AreCounts (listed (drill_tree seed count) drill_source) drill_target counts × (O.bytes out.new ≡ option_map (λ old. old ++ lines Outcome.Committed counts) (O.bytes out.old)) }
+    ensures not_reached { result ≡ Drilled.NotReached → (outcome : Outcome) × (is_committed outcome ≡ false) × (O.bytes out.new ≡ option_map (λ old. old ++ lines outcome none_counted) (O.bytes out.old)) }
+    ensures memory { result ≡ Drilled.Memory → O.bytes out.new ≡ option_map (λ old. old ++ lines Outcome.Memory none_counted) (O.bytes out.old) }
+
+    ensures unprinted { result ≡ Drilled.Unprinted → Rose (O.faults out.old) (O.faults out.new) }
+    ensures later { O.faults out.old ≤ O.faults out.new }
+{
     if !(MIN_COUNT..=MAX_COUNT).contains(&count) {
         return Drilled::BadCount;
     }
-    let answer = match run(rt, alloc, seed, count, out) {
-        Ok(answer) => answer,
-        Err(OutOfMemory) => no_memory(out),
+    let answer = match set_up(alloc, seed, count) {
+        Ok(setup) => run_setup(rt, alloc, setup, out),
+        Err(OutOfMemory) => print_no_memory(out),
     };
-    ended(&answer)
+    drilled_by(&answer)
 }
