@@ -1,16 +1,13 @@
 -- Which refusals end a run with a fault.
-use Rattle.std.proofs.Common.{◌≡◌, ℕ, ◌+◌, ◌≤◌, ◌⊎◌, inl, inr, true, false, Option, Some, None, ap, sym, ◌∙◌, refl, arith}
-use Rattle.std.specs.Option.{option_map}
+use Rattle.std.proofs.Common.{◌≡◌, ℕ, true, None, refl, arith}
 use Rattle.dc_fs.specs.Answers.{WriteRefusal}
 use Rattle.dc_fs.specs.Causes.{Rose, counted}
 use Rattle.dc_fs.specs.declared.errors.WriteError.{WriteError}
 use Rattle.dc_fs.specs.declared.errors.WriteError.TheVariants as write_error
 use Rattle.dc_cli.specs.Checks.{is_target_fault}
 use Rattle.dc_cli.specs.Runs.{outcome_of_copy, outcome_of_opening}
-use Rattle.dc_cli.specs.Verdict.{is_decided}
 use Rattle.dc_cli.specs.declared.copying.CopyError.{CopyError}
 use Rattle.dc_cli.specs.declared.copying.CopyError.TheVariants as copy_error
-use Rattle.dc_cli.specs.declared.outcome.Outcome.{Outcome}
 use Rattle.dc_cli.specs.declared.outcome.Outcome.TheVariants as outcome
 
 pub copy_source : (e : CopyError) → outcome_of_copy e ≡ outcome.SourceFault → e ≡ copy_error.SourceFault

@@ -1,5 +1,5 @@
 -- The parts of a commit, one element after the other.
-use Rattle.std.proofs.Common.{◌≡◌, ℕ, ◌+◌, ◌<◌, ◌≤◌, Bool, true, false, not, cond, ◌&&◌, List, [], ◌∷◌, ◌++◌, take, length, map, filter, get_or, slice_get, add-one, suc, zero, Option, Some, None, IfSome, IsTrue, refl, sym, ap, ◌∙◌, subst, arith, append_assoc, length-append}
+use Rattle.std.proofs.Common.{◌≡◌, ℕ, ◌+◌, ◌<◌, Bool, true, false, cond, List, [], ◌∷◌, ◌++◌, take, length, map, filter, get_or, slice_get, add-one, suc, zero, Option, Some, None, IfSome, IsTrue, refl, sym, ap, ◌∙◌, arith, append_assoc, length-append}
 use Rattle.std.proofs.Math.Path.{fun_ext}
 use Rattle.std.proofs.Math.Seq.{take-length}
 use Rattle.std.proofs.lemmas.List.{take_more, map-append, length-map, append-nil}
@@ -12,9 +12,7 @@ use Rattle.dc_attrs.specs.Trees.{Node, Tree, updated, made, seen}
 use Rattle.dc_attrs.specs.Refusals.{refused_dir, refused_in, refused_new}
 use Rattle.dc_attrs.specs.declared.shown.Seen.{Seen}
 use Rattle.dc_attrs.specs.declared.shown.Seen.TheVariants as seen_as
-use Rattle.dc_attrs.specs.declared.refusals.TreeError.{TreeError}
 use Rattle.dc_fs.specs.Answers.{write_error_of}
-use Rattle.dc_fs.specs.declared.errors.WriteError.{WriteError}
 use Rattle.dc_fs.specs.declared.errors.WriteError.TheVariants as write_error
 use Rattle.dc_fs.specs.Rest.{Rest}
 use Rattle.dc_fs.specs.declared.target.Landed.{Landed}

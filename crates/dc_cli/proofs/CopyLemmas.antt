@@ -1,5 +1,5 @@
 -- Files that are copied a bufferful at a time.
-use Rattle.std.proofs.Common.{◌≡◌, ℕ, ◌+◌, Bool, true, false, List, [], ◌∷◌, ◌++◌, take, drop, length, map, filter, get_or, add-one, suc, ◌<◌, not, cond, append_assoc, Option, Some, None, IfSome, refl, sym, ap, ◌∙◌, subst}
+use Rattle.std.proofs.Common.{◌≡◌, ℕ, ◌+◌, Bool, true, false, List, [], ◌∷◌, ◌++◌, take, drop, length, map, filter, get_or, ◌<◌, not, cond, Option, Some, None, IfSome, sym, ap, ◌∙◌}
 use Rattle.std.proofs.Math.Seq.{take-add}
 use Rattle.dc_path.specs.Paths.{Names}
 use Rattle.dc_attrs.specs.Trees.{Tree}

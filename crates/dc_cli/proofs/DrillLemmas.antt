@@ -1,9 +1,7 @@
 -- A drill: what its texts read as, and what its tree is.
-use Rattle.std.proofs.Common.{◌≡◌, ◌≢◌, ◌<◌, ◌≤◌, ◌+◌, ◌^◌, ◌%◌, ℕ, Bool, true, false, cond, ◌||◌, List, [], ◌∷◌, ◌++◌, map, length, codes, min, Option, Some, None, Result, Ok, Err, refl, sym, ap, ◌∙◌, subst, arith, rules, get_or, append_assoc, add-one, IfSome, zero, suc}
-use Rattle.std.specs.Option.{option_map}
+use Rattle.std.proofs.Common.{◌≡◌, ◌<◌, ◌^◌, ℕ, Bool, true, false, cond, ◌||◌, List, [], ◌∷◌, ◌++◌, map, length, codes, min, Option, Some, None, Result, Ok, Err, refl, sym, ap, ◌∙◌, subst, arith, rules, get_or, append_assoc, add-one, IfSome, zero, suc}
 use Rattle.std.specs.Char.{is_ascii_digit}
-use Rattle.std.specs.Fmt.{decimal}
-use Rattle.std.specs.List.{list_all, list_any, range_with_len, slice_get}
+use Rattle.std.specs.List.{list_all, list_any, range_with_len}
 use Rattle.std.specs.Str.{IsAscii, is_utf8}
 use Rattle.std.specs.Result.{OkIff, result_ok}
 use Rattle.std.specs.Str.Parse.{digits_value, ParsesUnsigned}
@@ -18,8 +16,8 @@ use Rattle.dc_path.specs.Paths.{Names, same_path}
 use Rattle.dc_path.specs.Reading.{path_from}
 use Rattle.dc_path.proofs.LawProofs.{text_reads_back}
 use Rattle.dc_attrs.specs.Attributes.{default_file, default_dir}
-use Rattle.dc_attrs.specs.Trees.{Node, Dir, File, Tree}
-use Rattle.dc_cli.specs.Drills.{number_from, drill_source, drill_target, drill_tree, drill_dirs, dir_path, file_path, file_bytes, file_or}
+use Rattle.dc_attrs.specs.Trees.{Dir, File, Tree}
+use Rattle.dc_cli.specs.Drills.{number_from, drill_source, drill_target, drill_tree, dir_path, file_path, file_bytes, file_or}
 use Rattle.dc_cli.specs.DrillSteps.{way_tree, with_dirs, with_files}
 use Rattle.dc_cli.specs.Words.{Asks, is_option}
 

@@ -1,24 +1,23 @@
 -- Directories that are made and files that land are the result, at each path of the store.
-use Rattle.std.proofs.Common.{◌≡◌, ℕ, ◌+◌, Bool, true, false, not, cond, ◌&&◌, ◌||◌, List, [], ◌∷◌, ◌++◌, take, length, map, filter, Option, Some, None, IfSome, IsSomeAnd, IsTrue, refl, sym, ap, ◌∙◌, subst, arith}
+use Rattle.std.proofs.Common.{◌≡◌, ℕ, Bool, true, false, not, cond, ◌&&◌, ◌||◌, List, [], ◌∷◌, ◌++◌, take, length, map, filter, Option, Some, None, refl, sym, ap, ◌∙◌, arith}
 use Rattle.std.proofs.Math.Seq.{take-length}
 use Rattle.std.specs.Option.{option_map, is_some}
 use Rattle.std.specs.List.{list_all, list_any}
 use Rattle.dc_path.specs.Found.{found}
 use Rattle.dc_path.specs.Names.{same_name}
-use Rattle.dc_path.specs.Order.{is_ascending, path_lt}
+use Rattle.dc_path.specs.Order.{is_ascending}
 use Rattle.dc_path.specs.Paths.{Names, same_path, cut, at_cut, is_root, is_above}
 use Rattle.dc_path.proofs.PathLemmas.{NameCase, name_case, same, other, same_name-refl, same_path-cut, same_path-not_below, append-cut}
-use Rattle.dc_attrs.specs.Attributes.{Attributes, default_file}
+use Rattle.dc_attrs.specs.Attributes.{default_file}
 use Rattle.dc_attrs.specs.Trees.{Node, Dir, File, Tree, IsDirAt, updated, made, is_hidden}
 use Rattle.dc_fs.specs.Temporaries.{told_if}
 use Rattle.dc_cli.specs.Items.{rel_of, item_of, AreItems}
-use Rattle.dc_cli.specs.Listed.{Listing, listed}
-use Rattle.dc_cli.specs.Phases.{Content, ways, folder_places, dir_places, place_of, all_made, all_landed, landed_as, is_dir_item, is_file_item, content_of, contents_of, file_bytes}
-use Rattle.dc_cli.specs.Result.{copied, result, IsResult}
+use Rattle.dc_cli.specs.Listed.{listed}
+use Rattle.dc_cli.specs.Phases.{ways, folder_places, dir_places, place_of, all_made, all_landed, landed_as, is_dir_item, is_file_item, content_of, contents_of, file_bytes}
+use Rattle.dc_cli.specs.Result.{copied, result}
 use Rattle.dc_cli.specs.Steps.{is_told}
 use Rattle.dc_cli.specs.declared.listing.Item.{Item}
-use Rattle.dc_cli.proofs.CommitLemmas.{all_made-append}
-use Rattle.dc_cli.proofs.PartLemmas.{both_first, both_second, kept, ascending-filter, found-once, found-filter}
+use Rattle.dc_cli.proofs.PartLemmas.{both_second, kept, ascending-filter, found-once, found-filter}
 
 -- ---- directories that are made, at one path
 abbrev has_path : List Names → Names → Bool

@@ -1,5 +1,5 @@
 -- The outcome of a run is the verdict.
-use Rattle.std.proofs.Common.{◌≡◌, ◌≢◌, ◌⊎◌, inl, inr, ℕ, List, Bool, true, false, cond, not, ◌&&◌, Option, Some, None, IfSome, Result, Ok, Err, OnOk, IfErr, refl, sym, ap, ◌∙◌, subst}
+use Rattle.std.proofs.Common.{◌≡◌, ◌≢◌, inr, ℕ, List, Bool, true, false, cond, not, ◌&&◌, Option, Some, None, IfSome, Result, Ok, Err, OnOk, IfErr, refl, sym, ◌∙◌}
 use Rattle.dc_path.specs.Paths.{Names}
 use Rattle.dc_attrs.specs.Trees.{Tree, IsTree, is_hidden, seen}
 use Rattle.dc_attrs.specs.declared.shown.Seen.{Seen}

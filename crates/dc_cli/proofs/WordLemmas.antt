@@ -1,5 +1,5 @@
 -- Words, read one after the other.
-use Rattle.std.proofs.Common.{◌≡◌, ℕ, ◌+◌, ◌<◌, List, [], ◌∷◌, ◌++◌, take, drop, length, get_or, nat_lt, Bool, true, false, cond, IsOkAnd, ◌≤◌, Result, Ok, Err, refl, sym, ap, ◌∙◌, subst, zero, suc, arith, add-one, append_assoc}
+use Rattle.std.proofs.Common.{◌≡◌, ℕ, ◌+◌, ◌<◌, List, [], ◌∷◌, ◌++◌, take, drop, length, get_or, nat_lt, Bool, true, false, cond, IsOkAnd, ◌≤◌, Result, Ok, Err, refl, sym, ap, ◌∙◌, subst, zero, suc, arith}
 use Rattle.std.proofs.lemmas.List.{take_more}
 use Rattle.dc_path.specs.Paths.{Names}
 use Rattle.dc_cli.specs.Words.{read_words, read_word, and_words, with_path, enough, options, Asks}

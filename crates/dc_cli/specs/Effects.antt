@@ -1,5 +1,5 @@
 -- What lands in a run, and what is counted (Hadoop DistCp, `CopyMapper.Counter`).
-use Rattle.std.specs.Prelude.{◌≡◌, List, map, length, Option, Some, None, IsTrue, ◌++◌, ◌+◌, ℕ}
+use Rattle.std.specs.Prelude.{◌≡◌, List, map, length, Option, Some, None, IsTrue, ◌++◌, ℕ}
 use Rattle.std.specs.List.{list_any, sum_by}
 use Rattle.dc_path.specs.Found.{found}
 use Rattle.dc_path.specs.Order.{is_ascending}

@@ -1,5 +1,5 @@
 -- What the parts of a run do to a tree, one element after the other.
-use Rattle.std.specs.Prelude.{◌≡◌, ℕ, Bool, true, false, not, List, [], ◌∷◌, ◌++◌, map, filter, take, length, Option, Some, None}
+use Rattle.std.specs.Prelude.{ℕ, Bool, not, List, [], ◌∷◌, ◌++◌, map, filter, take, length, Option, Some, None}
 use Rattle.std.specs.List.{sum_by}
 use Rattle.dc_path.specs.Paths.{Names}
 use Rattle.dc_attrs.specs.Attributes.{default_file}

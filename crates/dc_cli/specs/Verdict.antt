@@ -1,8 +1,7 @@
 -- The outcome that words and two trees decide, where nothing fails and memory is there.
-use Rattle.std.specs.Prelude.{◌≡◌, ◌⊎◌, ◌<◌, ◌≤◌, ℕ, Bool, true, false, List, not, ◌&&◌, length, IsOkAnd, IsSome, IsTrue, Ok, Err, Option}
+use Rattle.std.specs.Prelude.{◌≡◌, ◌⊎◌, ◌<◌, ◌≤◌, ℕ, Bool, true, false, List, not, ◌&&◌, length, IsOkAnd, IsSome, IsTrue, Ok, Err}
 use Rattle.std.specs.Option.{is_some}
 use Rattle.std.specs.List.{list_any}
-use Rattle.dc_path.specs.Order.{is_ascending}
 use Rattle.dc_path.specs.Paths.{Names, same_path}
 use Rattle.dc_attrs.specs.Trees.{Tree, seen}
 use Rattle.dc_cli.specs.Checks.{checked, is_committed}

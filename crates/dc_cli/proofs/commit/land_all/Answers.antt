@@ -1,4 +1,4 @@
-use Rattle.std.proofs.Common.{◌≡◌, ◌≤◌, ◌∙◌, ◌++◌, ◌∷◌, [], arith, map, length, length-append, subst, sym, List}
+use Rattle.std.proofs.Common.{◌∷◌, [], arith, map, length-append, subst, sym, List}
 use Rattle.std.proofs.lemmas.List.{map-append}
 use Rattle.dc_cli.specs.Phases.{Content}
 use Rattle.dc_cli.specs.Ready.{content_in}

@@ -1,4 +1,4 @@
-use Rattle.std.proofs.Common.{◌≡◌, ◌≤◌, ◌∙◌, arith}
+use Rattle.std.proofs.Common.{◌∙◌, arith}
 use Rattle.dc_cli.proofs.CommitLemmas.{folder_step}
 use Rattle.dc_cli.proofs.commit.make_items.Goals as goal
 

@@ -1,4 +1,4 @@
-use Rattle.std.proofs.Common.{◌≡◌, ◌≤◌, ◌∙◌, arith}
+use Rattle.std.proofs.Common.{◌∙◌, arith}
 use Rattle.dc_cli.proofs.CommitLemmas.{way_step, way_end}
 use Rattle.dc_cli.proofs.commit.make_way.Goals as goal
 

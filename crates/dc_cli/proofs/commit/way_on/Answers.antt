@@ -1,4 +1,4 @@
-use Rattle.std.proofs.Common.{rules, ◌≡◌, take, sym, ap, ◌∙◌, ◌++◌, ◌∷◌, []}
+use Rattle.std.proofs.Common.{rules, ◌≡◌, sym, ap, ◌∙◌, ◌++◌, ◌∷◌, []}
 use Rattle.dc_path.specs.Paths.{Names}
 use Rattle.dc_cli.proofs.CommitLemmas.{way_more}
 use Rattle.dc_cli.proofs.commit.way_on.Goals as goal

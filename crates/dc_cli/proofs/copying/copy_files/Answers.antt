@@ -1,4 +1,4 @@
-use Rattle.std.proofs.Common.{◌≡◌, ◌≤◌, ◌∙◌, ◌++◌, ◌∷◌, [], ℕ, Bool, arith, length, map, refl, ap, subst, Option, IfSome, length-append}
+use Rattle.std.proofs.Common.{◌≡◌, ◌∙◌, ◌∷◌, [], Bool, arith, length, map, refl, ap, subst, Option, IfSome, length-append}
 use Rattle.std.proofs.lemmas.List.{map-append}
 use Rattle.dc_attrs.specs.Trees.{Tree}
 use Rattle.dc_cli.specs.Phases.{content_of}

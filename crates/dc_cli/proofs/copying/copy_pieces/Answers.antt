@@ -1,5 +1,4 @@
-use Rattle.std.proofs.Common.{rules, ◌≡◌, ◌≤◌, ◌∙◌, ℕ, arith, length, take, drop, subst, Option, IfSome, length-take}
-use Rattle.std.proofs.lemmas.Grind.{common_steps}
+use Rattle.std.proofs.Common.{◌≡◌, ◌∙◌, ℕ, arith, length, take, drop, subst, Option, IfSome, length-take}
 use Rattle.dc_attrs.specs.Trees.{Tree}
 use Rattle.dc_fs.specs.Temporaries.{more}
 use Rattle.dc_cli.specs.Phases.{file_bytes}

@@ -1,5 +1,4 @@
 use Rattle.std.proofs.Common.{◌∙◌, ap, min}
-use Rattle.dc_attrs.specs.Trees.{Tree}
 use Rattle.dc_cli.specs.DrillSteps.{with_dirs, with_files}
 use Rattle.dc_cli.proofs.DrillLemmas.{tree_is}
 use Rattle.dc_cli.proofs.drills.build.Goals as goal

@@ -1,4 +1,4 @@
-use Rattle.std.proofs.Common.{◌∙◌, sym, subst, ap, true, ◌≡◌, List, ℕ}
+use Rattle.std.proofs.Common.{◌∙◌, sym, ap, true, ◌≡◌}
 use Rattle.std.specs.Char.{is_ascii_digit}
 use Rattle.std.specs.List.{list_all}
 use Rattle.dc_cli.proofs.DrillLemmas.{number_read}

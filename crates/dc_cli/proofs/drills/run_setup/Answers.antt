@@ -1,5 +1,5 @@
 use Rattle.std.proofs.Common.{◌∙◌, sym, subst, List, ℕ}
-use Rattle.dc_attrs.specs.Trees.{Tree, IsTree}
+use Rattle.dc_attrs.specs.Trees.{IsTree}
 use Rattle.dc_tree.specs.Arena.{tree_of, IsArena}
 use Rattle.dc_tree.proofs.Valid.{is_tree}
 use Rattle.dc_cli.specs.Drills.{drill_source, drill_target}

@@ -1,4 +1,4 @@
-use Rattle.std.proofs.Common.{◌≡◌, ◌∙◌, ℕ, List, map, ap, sym, subst, Option, IfSome}
+use Rattle.std.proofs.Common.{◌≡◌, ◌∙◌, List, map, ap, subst, IfSome}
 use Rattle.std.specs.Option.{is_some}
 use Rattle.dc_fs.specs.Rest.{Rest}
 use Rattle.dc_cli.specs.Phases.{contents_of, counts_from}

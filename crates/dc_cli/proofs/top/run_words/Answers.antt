@@ -1,11 +1,10 @@
-use Rattle.std.proofs.Common.{◌≡◌, ◌∙◌, List, arith, get_or, ap, subst, IfSome, Ok}
+use Rattle.std.proofs.Common.{◌∙◌, List, arith, get_or, ap, subst, IfSome, Ok}
 use Rattle.std.proofs.lemmas.Result.{on_ok_weaker}
 use Rattle.dc_path.specs.Paths.{Names}
 use Rattle.dc_attrs.specs.Trees.{IsTree}
 use Rattle.dc_cli.specs.Effects.{GainsEffects}
 use Rattle.dc_cli.specs.Listed.{listed}
 use Rattle.dc_cli.specs.Result.{IsResult}
-use Rattle.dc_cli.specs.Words.{Asks}
 use Rattle.dc_cli.proofs.WordLemmas.{two_paths, asked_same}
 use Rattle.dc_cli.proofs.VerdictLemmas.{run_refused}
 use Rattle.dc_cli.proofs.top.run_words.Goals as goal

@@ -1,4 +1,4 @@
-use Rattle.std.proofs.Common.{◌≡◌, ◌∙◌, Ok, ap, sym}
+use Rattle.std.proofs.Common.{◌∙◌, Ok, ap, sym}
 use Rattle.dc_cli.proofs.WordLemmas.{words_more, words_stop}
 use Rattle.dc_cli.proofs.words.read_paths.Goals as goal
 
