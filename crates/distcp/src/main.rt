@@ -1,12 +1,16 @@
 //! The program `distcp`: what its words ask for, and the exit status that it ends with.
 #![tactic(auto)]
 
-ghost use Rattle.std.specs.Prelude.{◌≡◌, ◌≢◌, ◌≤◌, ◌++◌};
+ghost use Rattle.std.specs.Prelude.{◌≡◌, ◌≢◌, ◌≤◌, ◌<◌, ◌⊎◌, ◌++◌, ℕ, codes, IfSome};
 ghost use Rattle.std.specs.Option.{option_map};
 ghost use Rattle.dc_fs.specs.Causes.{Rose};
+ghost use Rattle.dc_cli.specs.Drills.{drill_source, drill_target, drill_tree};
+ghost use Rattle.dc_cli.specs.Effects.{AreCounts, none_counted};
+ghost use Rattle.dc_cli.specs.Listed.{listed};
 ghost use Rattle.dc_cli.specs.Output.{lines};
 ghost use Rattle.dc_cli.specs.declared.outcome.Counts.{Counts};
 ghost use Rattle.dc_cli.specs.declared.outcome.Outcome.{Outcome};
+ghost use Rattle.distcp.specs.Jobs.{said};
 
 mod words;
 
@@ -21,14 +25,8 @@ use std::{env, io};
 use words::{Job, read_job};
 
 /// What `--help` prints.
-const USAGE: &str = "usage: distcp drill SEED COUNT
-
-Copies a directory of COUNT small files, 2 to 200000, between two stores in memory, and prints the counters.
-SEED, a number of 64 bits, decides the lengths and the bytes of the files.
-
-  --help     prints this text
-  --version  prints the version
-";
+const USAGE: &str =
+    "usage: distcp drill SEED COUNT\nCopies 2 to 200000 small files between two stores in memory, and prints the counters.\n";
 
 /// What `--version` prints.
 const VERSION: &str = "distcp 0.1.0\n";
@@ -49,7 +47,11 @@ const UNPRINTED: u8 = 28;
 const REFUSED: u8 = 255;
 
 // Prints a text and answers the exit status, which is `UNPRINTED` where the sink does not take the text.
-fn say<O: Sink>(out: &mut O, text: &str, status: u8) -> u8 {
+fn say<O: Sink>(out: &mut O, text: &str, status: u8) -> u8
+    ensures said { result ≢ 28 → (result ≡ status) × (O.bytes out.new ≡ option_map (λ old. old ++ text.now) (O.bytes out.old)) }
+    ensures unprinted { result ≡ 28 → status ≢ 28 → Rose (O.faults out.old) (O.faults out.new) }
+    ensures later { O.faults out.old ≤ O.faults out.new }
+{
     match out.write(text.as_bytes()) {
         Ok(()) => status,
         Err(_) => UNPRINTED,
@@ -63,7 +65,14 @@ fn run_drill<R: Threads + Sync, O: Sink>(
     seed: u64,
     count: u32,
     out: &mut O,
-) -> u8 {
+) -> u8
+    ensures done { result ≡ 0 → (counts : Counts) × AreCounts (listed (drill_tree seed count) drill_source) drill_target counts × (O.bytes out.new ≡ option_map (λ old. old ++ lines Outcome.Committed counts) (O.bytes out.old)) }
+    ensures refused { result ≡ 255 → ((count < 2) ⊎ (200000 < count)) × (O.bytes out.new ≡ option_map (λ old. old ++ codes "distcp: bad drill\n") (O.bytes out.old)) }
+    ensures bad_count { (count < 2) ⊎ (200000 < count) → result ≢ 28 → result ≡ 255 }
+    ensures memory { result ≡ 24 → O.bytes out.new ≡ option_map (λ old. old ++ lines Outcome.Memory none_counted) (O.bytes out.old) }
+    ensures unprinted { result ≡ 28 → Rose (O.faults out.old) (O.faults out.new) }
+    ensures later { O.faults out.old ≤ O.faults out.new }
+{
     match drill(rt, alloc, seed, count, out) {
         Drilled::Reached => DONE,
         Drilled::NotReached => NOT_REACHED,
@@ -74,7 +83,14 @@ fn run_drill<R: Threads + Sync, O: Sink>(
 }
 
 // Does what the words ask for and answers the exit status.
-fn run_job<R: Threads + Sync, O: Sink>(rt: &R, alloc: Global, job: Job, out: &mut O) -> u8 {
+fn run_job<R: Threads + Sync, O: Sink>(rt: &R, alloc: Global, job: Job, out: &mut O) -> u8
+    ensures said { result ≢ 28 → IfSome (said job) (λ line. (result ≡ line.1) × (O.bytes out.new ≡ option_map (λ old. old ++ line.0) (O.bytes out.old))) }
+    ensures drilled { (seed count : ℕ) → job ≡ Job.Drill seed count → result ≡ 0 → (counts : Counts) × AreCounts (listed (drill_tree seed count) drill_source) drill_target counts × (O.bytes out.new ≡ option_map (λ old. old ++ lines Outcome.Committed counts) (O.bytes out.old)) }
+    ensures refused { (seed count : ℕ) → job ≡ Job.Drill seed count → result ≡ 255 → ((count < 2) ⊎ (200000 < count)) × (O.bytes out.new ≡ option_map (λ old. old ++ codes "distcp: bad drill\n") (O.bytes out.old)) }
+    ensures bad_count { (seed count : ℕ) → job ≡ Job.Drill seed count → (count < 2) ⊎ (200000 < count) → result ≢ 28 → result ≡ 255 }
+    ensures unprinted { result ≡ 28 → Rose (O.faults out.old) (O.faults out.new) }
+    ensures later { O.faults out.old ≤ O.faults out.new }
+{
     match job {
         Job::Help => say(out, USAGE, DONE),
         Job::Version => say(out, VERSION, DONE),

@@ -1,6 +1,9 @@
 //! What the words of the command line ask for.
 #![tactic(auto)]
 
+ghost use Rattle.std.specs.Prelude.{◌≡◌, map, string_bytes};
+ghost use Rattle.distcp.specs.Jobs.{drill_of, job_of};
+
 use dc_cli::read_number;
 
 /// What the program is asked to do.
@@ -19,7 +22,9 @@ pub enum Job {
 }
 
 // What the words after `drill` ask for.
-fn read_drill(words: &[String]) -> Job {
+fn read_drill(words: &[String]) -> Job
+    ensures { result ≡ drill_of (map string_bytes words.now) }
+{
     let [seed, count] = words else {
         return Job::BadDrill;
     };
@@ -33,7 +38,9 @@ fn read_drill(words: &[String]) -> Job {
 }
 
 /// What words ask for.
-pub fn read_job(words: &[String]) -> Job {
+pub fn read_job(words: &[String]) -> Job
+    ensures { result ≡ job_of (map string_bytes words.now) }
+{
     match words {
         [first, rest @ ..] if first.as_str() == "drill" => read_drill(rest),
         [word] if word.as_str() == "--help" => Job::Help,

@@ -1,0 +1,38 @@
+-- What the words of the command line ask for.
+use Rattle.std.specs.Prelude.{ℕ, ◌^◌, List, [], ◌∷◌, codes, Option, Some, None, nat_lt, if◌then◌else◌}
+use Rattle.dc_path.specs.Names.{same_name}
+use Rattle.dc_cli.specs.Drills.{number_from}
+use Rattle.distcp.specs.declared.words.Job.{Job}
+use Rattle.distcp.specs.declared.words.Job.TheVariants.{Help, Version, Drill, BadDrill, Unbuilt}
+
+-- a drill of two numbers, of which the count is one of 32 bits
+abbrev pub drill_by : Option ℕ → Option ℕ → Job
+drill_by (Some seed) (Some count) = if nat_lt count (2 ^ 32) then Drill seed count else BadDrill
+drill_by seed count = BadDrill
+
+-- the words after `drill`: a seed and a count
+abbrev pub drill_of : List (List ℕ) → Job
+drill_of (seed ∷ count ∷ []) = drill_by (number_from seed) (number_from count)
+drill_of words = BadDrill
+
+-- a word that stands alone
+abbrev pub alone : List ℕ → List (List ℕ) → Job
+alone word [] = if same_name word (codes "--help") then Help else if same_name word (codes "--version") then Version else Unbuilt
+alone word others = Unbuilt
+
+-- what the words ask for: a first word `drill` decides before all else
+abbrev pub job_of : List (List ℕ) → Job
+job_of [] = Unbuilt
+job_of (word ∷ words) = if same_name word (codes "drill") then drill_of words else alone word words
+
+-- how the program is used
+abbrev pub usage : List ℕ
+usage = codes "usage: distcp drill SEED COUNT\nCopies 2 to 200000 small files between two stores in memory, and prints the counters.\n"
+
+-- what is printed of a job that is no run, and the exit status
+abbrev pub said : Job → Option (List ℕ × ℕ)
+said Help = Some (usage, 0)
+said Version = Some (codes "distcp 0.1.0\n", 0)
+said (Drill seed count) = None
+said BadDrill = Some (codes "distcp: bad drill\n", 255)
+said Unbuilt = Some (codes "distcp: only drill is built\n", 255)
