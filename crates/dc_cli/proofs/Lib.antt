@@ -9,3 +9,5 @@ pub mod SurveyLemmas
 pub mod ResultLemmas
 pub mod RunLemmas
 pub mod WordLemmas
+pub mod CauseLemmas
+pub mod VerdictLemmas

@@ -1,15 +1,17 @@
 -- A run that is done: its result, its effects and its counters.
-use Rattle.std.proofs.Common.{◌≡◌, ℕ, List, [], ◌∷◌, ◌++◌, map, Option, Some, None, IfSome, IsSomeAnd, IsTrue, true, false, Result, Ok, Err, OnOk, IfErr, refl, sym, ap, ◌∙◌, subst}
+use Rattle.std.proofs.Common.{◌≡◌, ◌≤◌, ℕ, Bool, cond, length, List, [], ◌∷◌, ◌++◌, map, Option, Some, None, IfSome, IsSomeAnd, IsTrue, true, false, Result, Ok, Err, OnOk, IfErr, refl, sym, ap, ◌∙◌, subst}
 use Rattle.std.specs.Option.{option_map, is_some}
 use Rattle.std.specs.List.{list_all}
+use Rattle.std.proofs.lemmas.List.{length-map}
+use Rattle.dc_path.specs.Found.{found}
 use Rattle.dc_path.specs.Order.{is_ascending}
-use Rattle.dc_path.specs.Paths.{Names}
-use Rattle.dc_attrs.specs.Trees.{Tree, IsTree}
+use Rattle.dc_path.specs.Paths.{Names, same_path}
+use Rattle.dc_attrs.specs.Trees.{Node, Dir, File, Tree, IsTree}
 use Rattle.dc_fs.specs.Rest.{Rest}
 use Rattle.dc_fs.specs.declared.target.Landed.{Landed}
 use Rattle.dc_cli.specs.Effects.{GainsEffects, AreCounts}
-use Rattle.dc_cli.specs.Items.{rel_of, AreItems}
-use Rattle.dc_cli.specs.Listed.{listed}
+use Rattle.dc_cli.specs.Items.{rel_of, item_of, fits, fits_under, AreItems}
+use Rattle.dc_cli.specs.Listed.{Listing, listed}
 use Rattle.dc_cli.specs.Phases.{Content, all_landed, all_made, dir_places, contents_of, counts_from}
 use Rattle.dc_cli.specs.Result.{IsResult, result}
 use Rattle.dc_cli.specs.Checks.{is_committed}
@@ -19,7 +21,9 @@ use Rattle.dc_cli.specs.declared.outcome.Outcome.TheVariants as outcome
 use Rattle.dc_cli.specs.Steps.{effect_of, is_told}
 use Rattle.dc_cli.specs.declared.listing.Item.{Item}
 use Rattle.dc_cli.specs.declared.outcome.Counts.{Counts}
-use Rattle.dc_cli.proofs.EffectLemmas.{effects_are, are_counts}
+use Rattle.dc_cli.proofs.EffectLemmas.{effects_are, are_counts, any-found}
+use Rattle.dc_cli.proofs.PartLemmas.{both_first, both_second, both_true}
+use Rattle.dc_cli.specs.Verdict.{IsListable}
 use Rattle.dc_cli.proofs.ResultLemmas.{result_is, all_are_told}
 
 -- what was copied, seen from the trees before the run
@@ -66,3 +70,36 @@ ended_done P (Err x) h s e = let k : is_committed x ≡ true = ap is_committed e
   where
     apart : true ≡ false → ⊥
     apart e = cc
+
+-- ---- a listing that is done is within its limits
+first_passes : (test : Item → Bool) (y x : Item) (others : Option Item) (b : Bool) → test y ≡ true → (others ≡ Some x → test x ≡ true) → cond b (Some y) others ≡ Some x → test x ≡ true
+first_passes test y x others true h ih e = let k : y ≡ x = cc in subst (λ (z : Item). test z ≡ true) k h
+first_passes test y x others false h ih e = ih e
+
+found_passes : (test : Item → Bool) (items : List Item) (q : Names) (x : Item) → list_all test items ≡ true → found rel_of items q ≡ Some x → test x ≡ true
+found_passes test [] q x h e = absurd (cc)
+found_passes test (y ∷ items) q x h e = first_passes test y x (found rel_of items q) (same_path (rel_of y) q) (both_first _ _ h) (found_passes test items q x (both_second _ _ h)) e
+
+item_rel : (q : Names) (n : Node) → rel_of (item_of q n) ≡ q
+item_rel q (Dir a) = refl
+item_rel q (File b a) = refl
+
+listed_fits : (listing : Listing) (base : Names) (items : List Item) → list_all (fits_under base) items ≡ true → AreItems listing items → (q : Names) (o : Option Node) → listing q ≡ o → is_some o ≡ true → fits (base ++ q) ≡ true
+listed_fits listing base items h l q None e s = absurd (cc)
+listed_fits listing base items h l q (Some n) e s =
+    let k : found rel_of items q ≡ Some (item_of q n) = l q ∙ ap (option_map (item_of q)) e in
+    ap (λ (r : Names). fits (base ++ r)) (sym (item_rel q n)) ∙ found_passes (fits_under base) items q (item_of q n) h k
+
+is_some-map : (q : Names) (o : Option Node) → is_some (option_map (item_of q) o) ≡ is_some o
+is_some-map q None = refl
+is_some-map q (Some n) = refl
+
+pub run_listable : (source : Option Tree) (root d : Names) (items : List Item) → list_all (fits_under root) items ≡ true → list_all (fits_under d) items ≡ true → length items ≤ 1048576 →
+    IfSome source (λ s. IsTree s → AreItems (listed s root) items) → IfSome source (λ s. IsTree s → IsListable (listed s root) root d)
+run_listable None root d items f g h l = tt
+run_listable (Some s) root d items f g h l = λ v. record {
+  fit = λ rel there. both_true _ _ (listed_fits (listed s root) root items f (l v) rel (listed s root rel) refl there) (listed_fits (listed s root) d items g (l v) rel (listed s root rel) refl there);
+  rels = map rel_of items;
+  all = λ rel. any-found rel_of items rel ∙ ap is_some (l v rel) ∙ is_some-map rel (listed s root rel);
+  few = rw length-map h;
+}

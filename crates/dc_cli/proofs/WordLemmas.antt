@@ -1,8 +1,11 @@
 -- Words, read one after the other.
-use Rattle.std.proofs.Common.{◌≡◌, ℕ, ◌+◌, ◌<◌, List, [], ◌∷◌, ◌++◌, take, drop, length, get_or, slice_get, ◌≤◌, Some, None, Result, Ok, Err, refl, sym, ap, ◌∙◌, subst, zero, suc, arith, add-one, append_assoc}
+use Rattle.std.proofs.Common.{◌≡◌, ℕ, ◌+◌, ◌<◌, List, [], ◌∷◌, ◌++◌, take, drop, length, get_or, nat_lt, Bool, true, false, cond, IsOkAnd, ◌≤◌, Result, Ok, Err, refl, sym, ap, ◌∙◌, subst, zero, suc, arith, add-one, append_assoc}
 use Rattle.std.proofs.lemmas.List.{take_more}
 use Rattle.dc_path.specs.Paths.{Names}
-use Rattle.dc_cli.specs.Words.{read_words, read_word, and_words, with_path, options, Asks}
+use Rattle.dc_cli.specs.Words.{read_words, read_word, and_words, with_path, enough, options, Asks}
+use Rattle.dc_cli.specs.Verdict.{AsksTooMuch}
+use Rattle.dc_cli.specs.declared.outcome.OptionError.TheVariants.{NoPaths}
+use borrow.Author.Tests.{ltb-false}
 use Rattle.dc_cli.specs.declared.outcome.OptionError.{OptionError}
 
 -- what all words read as, behind these paths
@@ -53,17 +56,29 @@ words_stop words i word paths e h is n r =
     ∙ ap (λ (x : Result Names OptionError). and_all paths (and_words x (read_words (drop (suc i) words)))) r
 
 -- ---- two paths
-no_path : (x : Names) → None ≡ Some x → ⊥
-no_path x e = cc
-
 one_list : (xs ys : List Names) → ◌≡◌ {A = Result (List Names) OptionError} (Ok xs) (Ok ys) → xs ≡ ys
 one_list xs ys e = cc
 
-pub two_paths : (paths : List Names) (root place : Names) → slice_get paths 0 ≡ Some root → slice_get paths 1 ≡ Some place → length paths ≤ 2 → paths ≡ root ∷ place ∷ []
-two_paths [] root place e f h = absurd (no_path root e)
-two_paths (a ∷ []) root place e f h = absurd (no_path place f)
-two_paths (a ∷ b ∷ []) root place e f h = let k : a ≡ root = cc in let l : b ≡ place = cc in cc
+pub two_paths : (paths : List Names) (root place : Names) → root ≡ get_or paths 0 root → place ≡ get_or paths 1 place → length paths ≡ 2 → paths ≡ root ∷ place ∷ []
+two_paths [] root place e f h = absurd (omega arith)
+two_paths (a ∷ []) root place e f h = absurd (omega arith)
+two_paths (a ∷ b ∷ []) root place e f h = cc
 two_paths (a ∷ b ∷ x ∷ paths) root place e f h = absurd (omega arith)
+
+by_count : (ps paths : List Names) (b : Bool) → nat_lt (length ps) 2 ≡ b → cond b (Err NoPaths) (Ok ps) ≡ Ok paths → 2 ≤ length paths
+by_count ps paths true e h = absurd (cc)
+by_count ps paths false e h = let k : ps ≡ paths = one_list ps paths h in omega (arith, ap length k, ltb-false (length ps) 2 e)
+
+too_much : (r : Result (List Names) OptionError) (paths : List Names) → r ≡ Ok paths → 2 < length paths → IsOkAnd r (λ ps. 2 < length ps)
+too_much (Ok ps) paths e h = let k : ps ≡ paths = one_list ps paths e in omega (arith, ap length k)
+too_much (Err x) paths e h = absurd (cc)
+
+enough_paths : (r : Result (List Names) OptionError) (paths : List Names) → enough r ≡ Ok paths → 2 ≤ length paths
+enough_paths (Err e) paths h = absurd (cc)
+enough_paths (Ok ps) paths h = by_count ps paths (nat_lt (length ps) 2) refl h
+
+pub many_paths : (words : List (List ℕ)) (paths : List Names) → options words ≡ Ok paths → (length paths ≡ 2 → ⊥) → AsksTooMuch words
+many_paths words paths o apart = too_much (options words) paths o (let h : 2 ≤ length paths = enough_paths (read_words words) paths o in omega (arith, h, apart))
 
 -- words ask for one pair of paths
 pub asked_same : (words : List (List ℕ)) (paths : List Names) (a b root place : Names) → options words ≡ Ok paths → paths ≡ a ∷ b ∷ [] → Asks words root place → (a ≡ root) × (b ≡ place)

@@ -51,11 +51,6 @@ abbrev pub Checks : Result (Unit {0}) Outcome → Result (Unit {0}) Outcome → 
 Checks expected (Ok done) = expected ≡ Ok tt
 Checks expected (Err e) = is_refusal e ≡ true → expected ≡ Err e
 
--- a directory is copied to a place where nothing stands
-pub record IsAllowed (from to : Seen) : Type 0 where
-  pub dir : from ≡ seen_as.Dir
-  pub absent : to ≡ seen_as.Missing
-
 -- how a listing's refusal ends a run
 abbrev pub outcome_of_listing : ListError → Outcome
 outcome_of_listing list_error.TooMany = outcome.TooMany too_many.Items

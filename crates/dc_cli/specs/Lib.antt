@@ -13,3 +13,4 @@ pub mod Pieces
 pub mod Words
 pub mod Checks
 pub mod Runs
+pub mod Verdict

@@ -5,6 +5,8 @@ use Rattle.std.specs.List.{list_all}
 use Rattle.dc_path.specs.Paths.{Names}
 use Rattle.dc_attrs.specs.Trees.{Tree}
 use Rattle.dc_fs.specs.Rest.{Rest}
+use Rattle.dc_fs.specs.declared.errors.WriteError.{WriteError}
+use Rattle.dc_fs.specs.declared.errors.WriteError.TheVariants as write_error
 use Rattle.dc_cli.specs.Effects.{none_counted}
 use Rattle.dc_cli.specs.Phases.{Content, all_landed, all_made, dir_places}
 use Rattle.dc_cli.specs.Steps.{effect_of, is_told}
@@ -14,6 +16,8 @@ use Rattle.dc_cli.specs.declared.copying.CopyError.{CopyError}
 use Rattle.dc_cli.specs.declared.copying.CopyError.TheVariants as copy_error
 use Rattle.dc_cli.specs.declared.listing.Item.{Item}
 use Rattle.dc_cli.specs.declared.outcome.Counts.{Counts}
+use Rattle.dc_cli.specs.declared.outcome.OptionError.{OptionError}
+use Rattle.dc_cli.specs.declared.outcome.OptionError.TheVariants as option_error
 use Rattle.dc_cli.specs.declared.outcome.Outcome.{Outcome}
 use Rattle.dc_cli.specs.declared.outcome.Outcome.TheVariants as outcome
 use Rattle.dc_cli.specs.declared.outcome.Phase.{Phase}
@@ -25,6 +29,16 @@ outcome_of_copy copy_error.SourceFault = outcome.SourceFault
 outcome_of_copy copy_error.DeskFault = outcome.TargetFault phase_of.Copy 0
 outcome_of_copy (copy_error.Changed path) = outcome.Changed path
 outcome_of_copy copy_error.Memory = outcome.Memory
+
+-- words that are no options
+abbrev pub outcome_of_words : OptionError → Outcome
+outcome_of_words option_error.Memory = outcome.Memory
+outcome_of_words e = outcome.BadOption e
+
+-- a desk that was not opened
+abbrev pub outcome_of_opening : WriteError → Outcome
+outcome_of_opening write_error.Memory = outcome.Memory
+outcome_of_opening e = outcome.TargetFault phase_of.Copy 0
 
 -- a part of the commit that was refused
 abbrev pub outcome_of_step : Phase → StepError → Outcome

@@ -1,17 +1,19 @@
 //! A run: what is copied from the source directory to the target, and what the target is left as.
 #![tactic(auto)]
 
-ghost use Rattle.std.specs.Prelude.{◌≡◌, ◌≤◌, false, map, filter, length, IfOk, IfErr, IfSome, OnOk};
+ghost use Rattle.std.specs.Prelude.{◌≡◌, ◌≤◌, ◌⊎◌, true, false, map, filter, length, Ok, IfOk, IfErr, IfSome, OnOk};
 ghost use Rattle.std.specs.List.{sum_by};
 ghost use Rattle.std.specs.Option.{is_some};
 ghost use Rattle.dc_attrs.specs.Trees.{IsTree, seen};
-ghost use Rattle.dc_cli.specs.Checks.{IsAllowed, is_committed};
+ghost use Rattle.dc_fs.specs.Causes.{Rose};
+ghost use Rattle.dc_cli.specs.Checks.{checked, is_committed, is_target_fault};
+ghost use Rattle.dc_cli.specs.Verdict.{is_decided, IsRefused, IsListable};
 ghost use Rattle.dc_cli.specs.Effects.{GainsEffects, AreCounts};
 ghost use Rattle.dc_cli.specs.Listed.{listed};
 ghost use Rattle.dc_cli.specs.Phases.{contents_of, counts_from, is_file_item, is_dir_item, length_of};
 ghost use Rattle.dc_cli.specs.Ready.{content_in};
 ghost use Rattle.dc_cli.specs.Result.{IsResult};
-ghost use Rattle.dc_cli.specs.Runs.{outcome_of_copy, outcome_of_step, Finishes};
+ghost use Rattle.dc_cli.specs.Runs.{outcome_of_copy, outcome_of_opening, outcome_of_step, Finishes};
 
 use crate::commit::{StepError, land_all, make_dirs};
 use crate::copying::{CopyError, Ready, copy_files};
@@ -28,7 +30,7 @@ const BUFFER_SIZE: usize = 8192;
 // How a copy's refusal ends a run.
 fn uncopied(error: CopyError) -> Outcome
     ensures outcome { result ≡ outcome_of_copy error }
-    ensures stops { is_committed result ≡ false }
+    ensures stops { is_decided result ≡ false }
 {
     match error {
         CopyError::SourceFault => Outcome::SourceFault,
@@ -44,12 +46,43 @@ fn uncopied(error: CopyError) -> Outcome
 // How a refusal in a part of the commit ends a run.
 fn unfinished(phase: Phase, error: StepError) -> Outcome
     ensures outcome { result ≡ outcome_of_step phase error }
-    ensures stops { is_committed result ≡ false }
+    ensures stops { is_decided result ≡ false }
 {
     match error {
         StepError::Fault { done } => Outcome::TargetFault { phase, done },
         StepError::Changed { path } => Outcome::Changed { path },
         StepError::Memory { .. } => Outcome::Memory,
+    }
+}
+
+// How a run ends where no desk is opened. A target refuses it by a fault or for want of memory alone.
+fn unopened(error: WriteError) -> Outcome
+    ensures { result ≡ outcome_of_opening error }
+{
+    match error {
+        WriteError::Memory => Outcome::Memory,
+        _ => Outcome::TargetFault {
+            phase: Phase::Copy,
+            done: 0,
+        },
+    }
+}
+
+// Opens a desk of the target.
+fn open_desk<T: Target>(alloc: Global, target: &mut T) -> Result<T::Desk, Outcome>
+    ensures tree { T.tree target.new ≡ T.tree target.old }
+    ensures rest { T.rest target.new ≡ T.rest target.old }
+    ensures later { T.faults target.old ≤ T.faults target.new }
+    ensures cause { IfErr result (λ e. is_target_fault e ≡ true → Rose (T.faults target.old) (T.faults target.new)) }
+    ensures stops { IfErr result (λ e. is_decided e ≡ false) }
+    ensures no_source { IfErr result (λ e. e ≡ Outcome.SourceFault → ⊥) }
+    ensures tells { IfOk result (λ desk. T.Desk.tells desk ≡ is_some (T.tree target.old)) }
+    ensures made { IfOk result (λ desk. T.Desk.made desk ≡ 0) }
+    ensures faults { IfOk result (λ desk. T.Desk.faults desk ≡ 0) }
+{
+    match target.open_desk(alloc) {
+        Ok(desk) => Ok(desk),
+        Err(error) => Err(unopened(error)),
     }
 }
 
@@ -69,18 +102,16 @@ fn settle<S: Store, T: Target>(
     ensures few { IfOk result (λ files. length files.items ≤ 1048576) }
     ensures counted { IfOk result (λ files. length files.items ≤ (T.rest target.new).scratch) }
     ensures copied { IfOk result (λ files. IfSome (S.tree source.old) (λ s. map (content_in T.Desk.Temp.content) files.items ≡ contents_of (is_some (T.tree target.old)) s root.now items.now)) }
-    ensures stops { IfErr result (λ e. is_committed e ≡ false) }
+    ensures stops { IfErr result (λ e. is_decided e ≡ false) }
+    ensures later { S.faults source.old ≤ S.faults source.new }
+    ensures cause { IfErr result (λ e. e ≡ Outcome.SourceFault → Rose (S.faults source.old) (S.faults source.new)) }
+    ensures target_later { T.faults target.old ≤ T.faults target.new }
+    ensures target_cause { IfErr result (λ e. is_target_fault e ≡ true → Rose (T.faults target.old) (T.faults target.new) ⊎ Rose (T.rest target.old).desk_faults (T.rest target.new).desk_faults) }
 {
     let mut buffer = vec![in alloc; 0u8; BUFFER_SIZE]?;
-    let mut desk = match target.open_desk(alloc) {
+    let mut desk = match open_desk(alloc, target) {
         Ok(desk) => desk,
-        Err(WriteError::Memory) => return Err(Outcome::Memory),
-        Err(_) => {
-            return Err(Outcome::TargetFault {
-                phase: Phase::Copy,
-                done: 0,
-            });
-        }
+        Err(outcome) => return Err(outcome),
     };
     let copied = copy_files(alloc, source, &mut desk, root, items, &mut buffer);
     target.rejoin_desk(desk);
@@ -102,7 +133,10 @@ fn finish<T: Target>(
     requires few { length files.items ≤ 1048576 }
     requires counted { length files.items ≤ (T.rest target.old).scratch }
     ensures finished { OnOk result (Finishes place.now items.now (map (content_in T.Desk.Temp.content) files.items) (T.tree target.old) (T.tree target.new) (T.rest target.old) (T.rest target.new)) }
-    ensures stops { IfErr result (λ e. is_committed e ≡ false) }
+    ensures stops { IfErr result (λ e. is_decided e ≡ false) }
+    ensures no_source { IfErr result (λ e. e ≡ Outcome.SourceFault → ⊥) }
+    ensures later { T.faults target.old ≤ T.faults target.new }
+    ensures cause { IfErr result (λ e. is_target_fault e ≡ true → Rose (T.faults target.old) (T.faults target.new)) }
 {
     match make_dirs(alloc, target, place, items) {
         Ok(()) => {}
@@ -167,7 +201,9 @@ fn count_items(items: &[Item]) -> Counts
 
 // Removes what is left of temporaries after a refusal, which stays the answer.
 fn give_up<T: Target>(target: &mut T, outcome: Outcome) -> Outcome
-    ensures { result ≡ outcome }
+    ensures outcome { result ≡ outcome }
+    ensures later { T.faults target.old ≤ T.faults target.new }
+    ensures desks { (T.rest target.new).desk_faults ≡ (T.rest target.old).desk_faults }
 {
     let _ = target.sweep();
     outcome
@@ -186,11 +222,19 @@ pub fn run<S: Store, T: Target>(
     ensures tree { S.tree source.new ≡ S.tree source.old }
     ensures rest { S.rest source.new ≡ S.rest source.old }
     ensures stops { IfErr result (λ e. is_committed e ≡ false) }
+    ensures refused { IfErr result (λ e. is_decided e ≡ true → IfSome (S.tree source.old) (λ s. IsTree s → IfSome (T.tree target.old) (λ t. IsRefused root.now place.now s t e))) }
+    ensures untouched { IfErr result (λ e. is_decided e ≡ true → T.tree target.new ≡ T.tree target.old) }
+    ensures unchanged { IfErr result (λ e. is_decided e ≡ true → T.rest target.new ≡ T.rest target.old) }
+    ensures later { S.faults source.old ≤ S.faults source.new }
+    ensures cause { IfErr result (λ e. e ≡ Outcome.SourceFault → Rose (S.faults source.old) (S.faults source.new)) }
+    ensures target_later { T.faults target.old ≤ T.faults target.new }
+    ensures target_cause { IfErr result (λ e. is_target_fault e ≡ true → Rose (T.faults target.old) (T.faults target.new) ⊎ Rose (T.rest target.old).desk_faults (T.rest target.new).desk_faults) }
     ensures swept { OnOk result ((T.rest target.new).scratch ≡ 0) }
     ensures result { OnOk result (IfSome (S.tree source.old) (λ s. IsTree s → IfSome (T.tree target.old) (λ t. IsTree t → IsResult (listed s root.now) t place.now (T.tree target.new)))) }
     ensures landed { OnOk result (IfSome (S.tree source.old) (λ s. IsTree s → IfSome (T.tree target.old) (λ t. IsTree t → GainsEffects (listed s root.now) place.now (T.rest target.old).landed (T.rest target.new).landed))) }
     ensures counts { IfOk result (λ counts. IfSome (S.tree source.old) (λ s. IsTree s → AreCounts (listed s root.now) place.now counts)) }
-    ensures allowed { OnOk result (IfSome (S.tree source.old) (λ s. IfSome (T.tree target.old) (λ t. IsAllowed (seen s root.now) (seen t place.now)))) }
+    ensures allowed { OnOk result (IfSome (S.tree source.old) (λ s. IfSome (T.tree target.old) (λ t. checked root.now place.now (seen s root.now) (seen t place.now) ≡ Ok tt))) }
+    ensures listable { OnOk result (IfSome (S.tree source.old) (λ s. IsTree s → IsListable (listed s root.now) root.now place.now)) }
 {
     let items = survey(alloc, source, target, root, place)?;
     let files = match settle(alloc, source, target, root, items.as_slice()) {

@@ -1,14 +1,16 @@
 //! What a run looks at before it changes anything: the source, the target's path, and the listing.
 #![tactic(auto)]
 
-ghost use Rattle.std.specs.Prelude.{◌≡◌, ◌≤◌, true, false, map, length, Err, IfOk, IfErr, IfSome, OnOk, IsTrue};
+ghost use Rattle.std.specs.Prelude.{◌≡◌, ◌≤◌, true, false, map, length, Ok, Err, IfOk, IfErr, IfSome, OnOk, IsTrue};
+ghost use Rattle.std.specs.List.{list_all};
 ghost use Rattle.dc_path.specs.Order.{is_ascending};
 ghost use Rattle.dc_attrs.specs.Trees.{IsTree, is_hidden, seen};
 ghost use Rattle.dc_path.specs.Unless.{GivesUnless};
 ghost use Rattle.dc_fs.specs.Causes.{Rose, HasCause};
-ghost use Rattle.dc_cli.specs.Items.{rel_of, AreItems};
+ghost use Rattle.dc_cli.specs.Items.{rel_of, fits_under, AreItems};
 ghost use Rattle.dc_cli.specs.Listed.{listed};
-ghost use Rattle.dc_cli.specs.Checks.{judged, checked, Checks, IsAllowed, is_absent, is_target_fault, is_committed, outcome_of_listing};
+ghost use Rattle.dc_cli.specs.Verdict.{is_decided, IsRefused};
+ghost use Rattle.dc_cli.specs.Checks.{judged, checked, Checks, is_absent, is_target_fault, is_committed, outcome_of_listing};
 
 use crate::listing::{Item, ListError, list_tree};
 use crate::{BadTarget, Outcome, Phase, TooManyOf};
@@ -159,12 +161,18 @@ pub fn survey<S: Store, T: Store>(
     ensures target_later { T.faults target.old ≤ T.faults target.new }
     ensures target_cause { IfErr result (λ e. is_target_fault e ≡ true → Rose (T.faults target.old) (T.faults target.new)) }
     ensures stops { IfErr result (λ e. is_committed e ≡ false) }
+    ensures refused { IfErr result (λ e. is_decided e ≡ true → IfSome (S.tree source.old) (λ s. IsTree s → IfSome (T.tree target.old) (λ t. IsRefused root.now place.now s t e))) }
     ensures ascending { IfOk result (λ items. IsTrue (is_ascending (map rel_of items))) }
     ensures few { IfOk result (λ items. length items ≤ 1048576) }
     ensures listed { IfOk result (λ items. IfSome (S.tree source.old) (λ s. IsTree s → AreItems (listed s root.now) items)) }
-    ensures allowed { OnOk result (IfSome (S.tree source.old) (λ s. IfSome (T.tree target.old) (λ t. IsAllowed (seen s root.now) (seen t place.now)))) }
+    ensures sources { IfOk result (λ items. IsTrue (list_all (fits_under root.now) items)) }
+    ensures places { IfOk result (λ items. IsTrue (list_all (fits_under place.now) items)) }
+    ensures allowed { OnOk result (IfSome (S.tree source.old) (λ s. IfSome (T.tree target.old) (λ t. checked root.now place.now (seen s root.now) (seen t place.now) ≡ Ok tt))) }
 {
-    check_paths(alloc, source, target, root, place)?;
+    match check_paths(alloc, source, target, root, place) {
+        Ok(()) => {}
+        Err(outcome) => return Err(outcome),
+    }
     match list_tree(alloc, source, root, place) {
         Ok(items) => Ok(items),
         Err(error) => Err(unlisted(error)),

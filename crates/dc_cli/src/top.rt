@@ -1,18 +1,19 @@
 //! The top call.
 #![tactic(auto)]
 
-ghost use Rattle.std.specs.Prelude.{◌≡◌, ◌≤◌, ℕ, ◌++◌, true, false, List, [], ◌∷◌, Ok, IfOk, IfErr, IfSome, OnOk};
+ghost use Rattle.std.specs.Prelude.{◌≡◌, ◌≤◌, ◌⊎◌, ℕ, ◌++◌, true, false, List, [], ◌∷◌, Ok, IfOk, IfErr, IfSome, OnOk};
 ghost use Rattle.std.specs.Option.{option_map};
 ghost use Rattle.dc_path.specs.Paths.{Names};
-ghost use Rattle.dc_attrs.specs.Trees.{IsTree, seen};
+ghost use Rattle.dc_attrs.specs.Trees.{IsTree};
 ghost use Rattle.dc_fs.specs.Causes.{Rose};
 ghost use Rattle.dc_fs.specs.Temporaries.{WriteStops};
-ghost use Rattle.dc_cli.specs.Checks.{IsAllowed, is_committed};
+ghost use Rattle.dc_cli.specs.Checks.{is_committed, is_target_fault};
+ghost use Rattle.dc_cli.specs.Verdict.{is_decided, is_refused, IsVerdict, AllowsRun};
 ghost use Rattle.dc_cli.specs.Effects.{GainsEffects, AreCounts, none_counted};
 ghost use Rattle.dc_cli.specs.Listed.{listed};
 ghost use Rattle.dc_cli.specs.Output.{lines};
 ghost use Rattle.dc_cli.specs.Result.{IsResult};
-ghost use Rattle.dc_cli.specs.Runs.{ended_as, counted_as};
+ghost use Rattle.dc_cli.specs.Runs.{ended_as, counted_as, outcome_of_words};
 ghost use Rattle.dc_cli.specs.Words.{Asks};
 
 use crate::engine::run;
@@ -37,20 +38,40 @@ fn run_words<S: Store, T: Target>(
     ensures result { OnOk result ((root place : Names) → Asks words.now root place → IfSome (S.tree source.old) (λ s. IsTree s → IfSome (T.tree target.old) (λ t. IsTree t → IsResult (listed s root) t place (T.tree target.new)))) }
     ensures landed { OnOk result ((root place : Names) → Asks words.now root place → IfSome (S.tree source.old) (λ s. IsTree s → IfSome (T.tree target.old) (λ t. IsTree t → GainsEffects (listed s root) place (T.rest target.old).landed (T.rest target.new).landed))) }
     ensures counts { IfOk result (λ counts. (root place : Names) → Asks words.now root place → IfSome (S.tree source.old) (λ s. IsTree s → AreCounts (listed s root) place counts)) }
-    ensures allowed { OnOk result ((root place : Names) → Asks words.now root place → IfSome (S.tree source.old) (λ s. IfSome (T.tree target.old) (λ t. IsAllowed (seen s root) (seen t place)))) }
+    ensures refused { IfErr result (λ e. is_decided e ≡ true → IfSome (S.tree source.old) (λ s. IsTree s → IfSome (T.tree target.old) (λ t. IsTree t → IsVerdict words.now s t e))) }
+    ensures allowed { OnOk result (IfSome (S.tree source.old) (λ s. IsTree s → IfSome (T.tree target.old) (λ t. IsTree t → AllowsRun words.now s t))) }
+    ensures untouched { IfErr result (λ e. is_decided e ≡ true → T.tree target.new ≡ T.tree target.old) }
+    ensures unchanged { IfErr result (λ e. is_decided e ≡ true → T.rest target.new ≡ T.rest target.old) }
+    ensures cause { IfErr result (λ e. e ≡ Outcome.SourceFault → Rose (S.faults source.old) (S.faults source.new)) }
+    ensures target_cause { IfErr result (λ e. is_target_fault e ≡ true → Rose (T.faults target.old) (T.faults target.new) ⊎ Rose (T.rest target.old).desk_faults (T.rest target.new).desk_faults) }
 {
     let paths = match read_options(alloc, words) {
         Ok(paths) => paths,
-        Err(OptionError::Memory) => return Err(Outcome::Memory),
-        Err(error) => return Err(Outcome::BadOption { error }),
+        Err(error) => return Err(refused_words(error)),
     };
-    if paths.len() > 2 {
+    if paths.len() != 2 {
         return Err(Outcome::Unbuilt);
     }
-    let (Some(root), Some(place)) = (paths.get(0), paths.get(1)) else {
-        return Err(Outcome::Unbuilt);
-    };
-    run(alloc, source, target, root, place)
+    let paths = paths.as_slice();
+    run(alloc, source, target, &paths[0], &paths[1])
+}
+
+// How a run ends where its words are no options.
+fn refused_words(error: OptionError) -> Outcome
+    ensures { result ≡ outcome_of_words error }
+{
+    match error {
+        OptionError::Memory => Outcome::Memory,
+        OptionError::UnknownOption { word } => Outcome::BadOption {
+            error: OptionError::UnknownOption { word },
+        },
+        OptionError::BadPath { text } => Outcome::BadOption {
+            error: OptionError::BadPath { text },
+        },
+        OptionError::NoPaths => Outcome::BadOption {
+            error: OptionError::NoPaths,
+        },
+    }
 }
 
 // The answer of a run that is not printed yet.
@@ -85,9 +106,15 @@ pub fn distcp<R: Threads + Sync, S: Source, T: Target, O: Sink>(
 ) -> Answer
     ensures source { S.tree source.new ≡ S.tree source.old }
 
-    // A run that commits was asked for by two paths, a directory and a place where nothing stands,
+    // Words and trees decide the outcome, unless a store fails or denies what it showed, or memory runs out.
+    ensures verdict { IfSome (S.tree source.old) (λ s. IsTree s → IfSome (T.tree target.old) (λ t. IsTree t → is_decided result.outcome ≡ true → IsVerdict words.now s t result.outcome)) }
+    ensures untouched { is_refused result.outcome ≡ true → T.tree target.new ≡ T.tree target.old }
+    ensures unchanged { is_refused result.outcome ≡ true → T.rest target.new ≡ T.rest target.old }
+    ensures source_fault { result.outcome ≡ Outcome.SourceFault → Rose (S.faults source.old) (S.faults source.new) }
+    ensures target_fault { is_target_fault result.outcome ≡ true → Rose (T.faults target.old) (T.faults target.new) ⊎ Rose (T.rest target.old).desk_faults (T.rest target.new).desk_faults }
+
+    // A run that commits was asked for by two paths,
     ensures asked { result.outcome ≡ Outcome.Committed → (root : Names) × (place : Names) × Asks words.now root place }
-    ensures allowed { result.outcome ≡ Outcome.Committed → (root place : Names) → Asks words.now root place → IfSome (S.tree source.old) (λ s. IfSome (T.tree target.old) (λ t. IsAllowed (seen s root) (seen t place))) }
     // and leaves exactly the result, each listed file landed once, and no temporary.
     ensures result { result.outcome ≡ Outcome.Committed → (root place : Names) → Asks words.now root place → IfSome (S.tree source.old) (λ s. IsTree s → IfSome (T.tree target.old) (λ t. IsTree t → IsResult (listed s root) t place (T.tree target.new))) }
     ensures landed { result.outcome ≡ Outcome.Committed → (root place : Names) → Asks words.now root place → IfSome (S.tree source.old) (λ s. IsTree s → IfSome (T.tree target.old) (λ t. IsTree t → GainsEffects (listed s root) place (T.rest target.old).landed (T.rest target.new).landed)) }

@@ -5,7 +5,7 @@ use Rattle.dc_cli.specs.Phases.{contents_of, counts_from}
 use Rattle.dc_cli.specs.Ready.{content_in}
 use Rattle.dc_cli.specs.Runs.{Finishes}
 use Rattle.dc_cli.specs.declared.listing.Item.{Item}
-use Rattle.dc_cli.proofs.RunLemmas.{copied_before, run_result, run_landed, run_counts}
+use Rattle.dc_cli.proofs.RunLemmas.{copied_before, run_result, run_landed, run_counts, run_listable}
 use Rattle.dc_cli.proofs.engine.run.Goals as goal
 
 pub returns-in-Ok-finish-clause-result : goal.returns-in-Ok-finish-clause-result
@@ -32,3 +32,7 @@ pub returns-in-Ok-finish-clause-counts : goal.returns-in-Ok-finish-clause-counts
 returns-in-Ok-finish-clause-counts g c =
     run_counts (g.S.Store.tree c.args.source.now) c.args.root.now c.args.place.now c.in_ok-items.items c.count_items.result c.in_ok-items.ensures.ascending
     (c.count_items.ensures ∙ ap counts_from c.as_slice-in-Ok-finish.ensures) c.in_ok-items.ensures.listed
+
+pub returns-in-Ok-finish-clause-listable : goal.returns-in-Ok-finish-clause-listable
+returns-in-Ok-finish-clause-listable g c =
+    run_listable (g.S.Store.tree c.args.source.now) c.args.root.now c.args.place.now c.in_ok-items.items c.in_ok-items.ensures.sources c.in_ok-items.ensures.places c.in_ok-items.ensures.few c.in_ok-items.ensures.listed

@@ -1,4 +1,8 @@
-use Rattle.std.proofs.Common.{◌≡◌, Bool, map, subst, IfSome}
+use Rattle.std.proofs.Common.{◌≡◌, ◌∙◌, inr, Err, Bool, map, ap, sym, subst, IfSome}
+use Rattle.dc_fs.specs.Causes.{counted}
+use Rattle.dc_fs.specs.Rest.{Rest}
+use Rattle.dc_cli.specs.Checks.{is_target_fault}
+use Rattle.dc_cli.proofs.CauseLemmas.{copy_source, copy_desk, desk_rose}
 use Rattle.dc_cli.specs.Phases.{contents_of}
 use Rattle.dc_cli.specs.Ready.{content_in}
 use Rattle.dc_cli.proofs.engine.settle.Goals as goal
@@ -7,3 +11,13 @@ pub returns-in-Ok-copied-clause-copied : goal.returns-in-Ok-copied-clause-copied
 returns-in-Ok-copied-clause-copied g c =
     subst (λ (tells : Bool). IfSome (g.S.Store.tree c.args.source.now) (λ s. map (content_in g.T.Desk.Temp.Held.content) c.in-Ok-copied.files.items ≡ contents_of tells s c.args.root.now c.args.items.now))
     c.in-Ok.ensures.tells c.in-Ok-copied.ensures.copied
+
+pub returns-clause-cause : goal.returns-clause-cause
+returns-clause-cause g c = λ h. c.in-Err-copied.ensures.cause.rose (ap Err (copy_source c.in-Err-copied.error (sym c.uncopied.ensures.outcome ∙ h)))
+
+pub returns-clause-target_cause : goal.returns-clause-target_cause
+returns-clause-target_cause g c = λ h.
+    inr (desk_rose (g.T.Store.rest c.args.target.now).desk_faults (g.T.Desk.Desk.faults c.in-Ok.desk) (g.T.Desk.Desk.faults c.copy_files-copied.new.desk) (g.T.Store.rest c.rejoin_desk.new.self).desk_faults
+    c.in-Ok.ensures.faults
+    (c.in-Err-copied.ensures.desk_cause.rose (ap Err (copy_desk c.in-Err-copied.error (ap is_target_fault (sym c.uncopied.ensures.outcome) ∙ h))))
+    (ap (λ (r : Rest). r.desk_faults) c.rejoin_desk.ensures.rest ∙ ap (λ (r : Rest). counted r.desk_faults (g.T.Desk.Desk.faults c.copy_files-copied.new.desk)) c.open_desk.ensures.rest))

@@ -1,12 +1,20 @@
-use Rattle.std.proofs.Common.{◌≡◌, ◌∙◌, sym, IfSome}
+use Rattle.std.proofs.Common.{◌≡◌, ◌∙◌, ap, sym, subst, true, IfSome}
 use Rattle.dc_path.specs.Paths.{Names}
 use Rattle.dc_attrs.specs.Trees.{IsTree}
 use Rattle.dc_cli.specs.Effects.{GainsEffects}
 use Rattle.dc_cli.specs.Listed.{listed}
 use Rattle.dc_cli.specs.Result.{IsResult}
+use Rattle.dc_cli.specs.Verdict.{is_decided, IsVerdict}
 use Rattle.dc_cli.specs.Words.{Asks}
+use Rattle.dc_cli.specs.declared.outcome.Outcome.{Outcome}
 use Rattle.dc_cli.proofs.RunLemmas.{ended_done}
+use Rattle.dc_cli.proofs.VerdictLemmas.{ended_verdict}
 use Rattle.dc_cli.proofs.top.distcp.Goals as goal
+
+pub returns-clause-verdict : goal.returns-clause-verdict
+returns-clause-verdict g c =
+    subst (λ (e : Outcome). IfSome (g.S.Store.tree c.args.source.now) (λ s. IsTree s → IfSome (g.T.Store.tree c.args.target.now) (λ t. IsTree t → is_decided e ≡ true → IsVerdict c.args.words.now s t e))) (sym c.unprinted-answer.ensures.outcome)
+    (ended_verdict (g.S.Store.tree c.args.source.now) (g.T.Store.tree c.args.target.now) c.args.words.now c.run_words-ran.result c.run_words-ran.ensures.allowed c.run_words-ran.ensures.refused)
 
 pub returns-clause-result : goal.returns-clause-result
 returns-clause-result g c = λ ended.

@@ -1,4 +1,4 @@
-use Rattle.std.proofs.Common.{◌≡◌, ◌∙◌, ◌∷◌, [], ◌≤◌, arith, length, List, ap, sym, subst, IfSome, Ok}
+use Rattle.std.proofs.Common.{◌≡◌, ◌∙◌, List, arith, get_or, ap, subst, IfSome, Ok}
 use Rattle.std.proofs.lemmas.Result.{on_ok_weaker}
 use Rattle.dc_path.specs.Paths.{Names}
 use Rattle.dc_attrs.specs.Trees.{IsTree}
@@ -7,25 +7,29 @@ use Rattle.dc_cli.specs.Listed.{listed}
 use Rattle.dc_cli.specs.Result.{IsResult}
 use Rattle.dc_cli.specs.Words.{Asks}
 use Rattle.dc_cli.proofs.WordLemmas.{two_paths, asked_same}
+use Rattle.dc_cli.proofs.VerdictLemmas.{run_refused}
 use Rattle.dc_cli.proofs.top.run_words.Goals as goal
 
-pub returns-clause-asked : goal.returns-clause-asked
-returns-clause-asked g c =
-    let pair = two_paths c.in-Ok.paths c.in-Some-Some.root.now c.in-Some-Some.place.now (sym c.in-Some-Some.ensures) (sym c.in-Some-Some.ensures') (omega (arith, c.len.ensures, c.if-len-gt2.false)) in
-    on_ok_weaker c.run.result (λ _. (c.in-Some-Some.root.now, c.in-Some-Some.place.now, c.in-Ok.ensures ∙ ap Ok pair)) c.run.ensures.swept
+pub returns-clause-refused : goal.returns-clause-refused
+returns-clause-refused g c =
+    let pair = two_paths c.in-Ok.paths c.index-paths-0.result c.index-paths-1.result
+    (c.index-paths-0.is ∙ ap (λ (ps : List Names). get_or ps 0 c.index-paths-0.result) c.as_slice-paths.ensures) (c.index-paths-1.is ∙ ap (λ (ps : List Names). get_or ps 1 c.index-paths-1.result) c.as_slice-paths.ensures) (omega (arith, c.len.ensures, c.if-len-ne2.false)) in
+    run_refused (g.S.Store.tree c.args.source.now) (g.T.Store.tree c.args.target.now) c.args.words.now c.index-paths-0.result c.index-paths-1.result c.run.result (c.in-Ok.ensures ∙ ap Ok pair) c.run.ensures.stops c.run.ensures.refused
 
 pub returns-clause-result : goal.returns-clause-result
 returns-clause-result g c =
-    let pair = two_paths c.in-Ok.paths c.in-Some-Some.root.now c.in-Some-Some.place.now (sym c.in-Some-Some.ensures) (sym c.in-Some-Some.ensures') (omega (arith, c.len.ensures, c.if-len-gt2.false)) in
+    let pair = two_paths c.in-Ok.paths c.index-paths-0.result c.index-paths-1.result
+    (c.index-paths-0.is ∙ ap (λ (ps : List Names). get_or ps 0 c.index-paths-0.result) c.as_slice-paths.ensures) (c.index-paths-1.is ∙ ap (λ (ps : List Names). get_or ps 1 c.index-paths-1.result) c.as_slice-paths.ensures) (omega (arith, c.len.ensures, c.if-len-ne2.false)) in
     on_ok_weaker c.run.result (λ p root place asks.
-      let both = asked_same c.args.words.now c.in-Ok.paths c.in-Some-Some.root.now c.in-Some-Some.place.now root place c.in-Ok.ensures pair asks in
-      subst (λ (r : Names). IfSome (g.S.Store.tree c.args.source.now) (λ s. IsTree s → IfSome (g.T.Store.tree c.args.target.now) (λ t. IsTree t → IsResult (listed s r) t place (g.T.Store.tree c.run.new.target)))) both.0
-      (subst (λ (q : Names). IfSome (g.S.Store.tree c.args.source.now) (λ s. IsTree s → IfSome (g.T.Store.tree c.args.target.now) (λ t. IsTree t → IsResult (listed s c.in-Some-Some.root.now) t q (g.T.Store.tree c.run.new.target)))) both.1 p)) c.run.ensures.result
+    let both = asked_same c.args.words.now c.in-Ok.paths c.index-paths-0.result c.index-paths-1.result root place c.in-Ok.ensures pair asks in
+    subst (λ (r : Names). IfSome (g.S.Store.tree c.args.source.now) (λ s. IsTree s → IfSome (g.T.Store.tree c.args.target.now) (λ t. IsTree t → IsResult (listed s r) t place (g.T.Store.tree c.run.new.target)))) both.0
+    (subst (λ (q : Names). IfSome (g.S.Store.tree c.args.source.now) (λ s. IsTree s → IfSome (g.T.Store.tree c.args.target.now) (λ t. IsTree t → IsResult (listed s c.index-paths-0.result) t q (g.T.Store.tree c.run.new.target)))) both.1 p)) c.run.ensures.result
 
 pub returns-clause-landed : goal.returns-clause-landed
 returns-clause-landed g c =
-    let pair = two_paths c.in-Ok.paths c.in-Some-Some.root.now c.in-Some-Some.place.now (sym c.in-Some-Some.ensures) (sym c.in-Some-Some.ensures') (omega (arith, c.len.ensures, c.if-len-gt2.false)) in
+    let pair = two_paths c.in-Ok.paths c.index-paths-0.result c.index-paths-1.result
+    (c.index-paths-0.is ∙ ap (λ (ps : List Names). get_or ps 0 c.index-paths-0.result) c.as_slice-paths.ensures) (c.index-paths-1.is ∙ ap (λ (ps : List Names). get_or ps 1 c.index-paths-1.result) c.as_slice-paths.ensures) (omega (arith, c.len.ensures, c.if-len-ne2.false)) in
     on_ok_weaker c.run.result (λ p root place asks.
-      let both = asked_same c.args.words.now c.in-Ok.paths c.in-Some-Some.root.now c.in-Some-Some.place.now root place c.in-Ok.ensures pair asks in
-      subst (λ (r : Names). IfSome (g.S.Store.tree c.args.source.now) (λ s. IsTree s → IfSome (g.T.Store.tree c.args.target.now) (λ t. IsTree t → GainsEffects (listed s r) place (g.T.Store.rest c.args.target.now).landed (g.T.Store.rest c.run.new.target).landed))) both.0
-      (subst (λ (q : Names). IfSome (g.S.Store.tree c.args.source.now) (λ s. IsTree s → IfSome (g.T.Store.tree c.args.target.now) (λ t. IsTree t → GainsEffects (listed s c.in-Some-Some.root.now) q (g.T.Store.rest c.args.target.now).landed (g.T.Store.rest c.run.new.target).landed))) both.1 p)) c.run.ensures.landed
+    let both = asked_same c.args.words.now c.in-Ok.paths c.index-paths-0.result c.index-paths-1.result root place c.in-Ok.ensures pair asks in
+    subst (λ (r : Names). IfSome (g.S.Store.tree c.args.source.now) (λ s. IsTree s → IfSome (g.T.Store.tree c.args.target.now) (λ t. IsTree t → GainsEffects (listed s r) place (g.T.Store.rest c.args.target.now).landed (g.T.Store.rest c.run.new.target).landed))) both.0
+    (subst (λ (q : Names). IfSome (g.S.Store.tree c.args.source.now) (λ s. IsTree s → IfSome (g.T.Store.tree c.args.target.now) (λ t. IsTree t → GainsEffects (listed s c.index-paths-0.result) q (g.T.Store.rest c.args.target.now).landed (g.T.Store.rest c.run.new.target).landed))) both.1 p)) c.run.ensures.landed
