@@ -1,0 +1,3 @@
+pub mod WorkedProofs
+pub mod WordProofs
+pub mod TreeProofs

@@ -1,0 +1,94 @@
+//! Runs over stores in memory, and what they leave.
+#![tactic(auto)]
+
+use crate::entries::{Entry, is_planted, planted};
+use dc_attrs::TreeError;
+use dc_cli::{Answer, distcp, status};
+use dc_fs::{Landed, Mode};
+use dc_memfs::{Fails, MemSink, MemSource, MemTarget};
+use dc_path::{List, OutOfMemory, Text};
+use std::alloc::Global;
+use std::thread::Threads;
+
+/// What a run answered, and what it left.
+#[derive(Drop)]
+pub struct Ran {
+    pub answer: Answer,
+    pub target: MemTarget,
+    pub sink: MemSink,
+}
+
+// The words of a run, which one space parts.
+fn words(alloc: Global, text: &str) -> Result<List<Text>, OutOfMemory> {
+    let mut words = List::new(alloc);
+    for word in text.split(' ') {
+        let word = Text::read(alloc, word)?;
+        words.push(word).map_err(|_| OutOfMemory)?;
+    }
+    Ok(words)
+}
+
+// A target of these entries, on which no call fails.
+fn target_of(alloc: Global, entries: &[Entry]) -> Result<MemTarget, TreeError> {
+    let tree = planted(alloc, entries)?;
+    let own = Fails::none(alloc);
+    let desks = Fails::none(alloc);
+    Ok(MemTarget::new(alloc, tree, own, desks))
+}
+
+// Runs what the words ask for from one list of entries to another. The sink fails from its `fail_at`-th write on.
+pub fn run<R: Threads + Sync>(
+    rt: &R,
+    alloc: Global,
+    source: &[Entry],
+    target: &[Entry],
+    text: &str,
+    fail_at: Option<u64>,
+) -> Result<Ran, TreeError> {
+    let tree = planted(alloc, source)?;
+    let mut target = target_of(alloc, target)?;
+    let words = words(alloc, text)?;
+    let mut sink = MemSink::new(alloc, fail_at)?;
+    let none = Fails::none(alloc);
+    let mut source = MemSource::new(&tree, &none, &none);
+    let words = words.as_slice();
+    let answer = distcp(rt, alloc, words, &mut source, &mut target, &mut sink);
+    Ok(Ran {
+        answer,
+        target,
+        sink,
+    })
+}
+
+// Whether the target has these entries and no temporary.
+pub fn leaves(alloc: Global, ran: &Ran, entries: &[Entry]) -> Result<bool, TreeError> {
+    let planted = is_planted(alloc, ran.target.tree(), entries)?;
+    Ok(planted && ran.target.scratch() == 0)
+}
+
+// Whether the exit status is this, and the whole output.
+pub fn ends_with(ran: &Ran, code: u8, output: &str) -> bool {
+    status(&ran.answer) == code && ran.sink.bytes() == output.as_bytes()
+}
+
+// Whether this landed in the place of what stood there.
+fn has_landed(alloc: Global, landed: &Landed, text: &str, bytes: u64) -> Result<bool, OutOfMemory> {
+    let path = landed.path.text(alloc)?;
+    Ok(path.as_str() == text && landed.mode == Mode::Replace && landed.bytes == bytes)
+}
+
+// Whether exactly these two landed, in this order.
+pub fn landed_two(
+    alloc: Global,
+    ran: &Ran,
+    first: (&str, u64),
+    second: (&str, u64),
+) -> Result<bool, OutOfMemory> {
+    match ran.target.landed().as_slice() {
+        [one, other] => Ok(
+            has_landed(alloc, one, first.0, first.1)?
+                && has_landed(alloc, other, second.0, second.1)?,
+        ),
+        _ => Ok(false),
+    }
+}
