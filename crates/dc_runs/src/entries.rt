@@ -23,7 +23,7 @@ pub fn path(alloc: Global, text: &str) -> Result<Path, TreeError> {
 
 // Makes a directory with default attributes.
 #[tactic(auto, using(dc_tree::proofs::FittingLemmas::default_dir_fits))]
-fn make_dir(alloc: Global, tree: &mut MemTree, text: &str) -> Result<(), TreeError> {
+pub fn make_dir(alloc: Global, tree: &mut MemTree, text: &str) -> Result<(), TreeError> {
     let path = path(alloc, text)?;
     tree.make_dir(alloc, &path, Attrs::default_dir(alloc))
 }

@@ -7,6 +7,7 @@ use dc_cli::{Answer, distcp, status};
 use dc_fs::{Landed, Mode};
 use dc_memfs::{Fails, MemSink, MemSource, MemTarget};
 use dc_path::{List, OutOfMemory, Text};
+use dc_tree::MemTree;
 use std::alloc::Global;
 use std::thread::Threads;
 
@@ -18,9 +19,12 @@ pub struct Ran {
     pub sink: MemSink,
 }
 
-// The words of a run, which one space parts.
+// The words of a run, which one space parts; none in an empty text.
 fn words(alloc: Global, text: &str) -> Result<List<Text>, OutOfMemory> {
     let mut words = List::new(alloc);
+    if text.is_empty() {
+        return Ok(words);
+    }
     for word in text.split(' ') {
         let word = Text::read(alloc, word)?;
         words.push(word).map_err(|_| OutOfMemory)?;
@@ -46,11 +50,23 @@ pub fn run<R: Threads + Sync>(
     fail_at: Option<u64>,
 ) -> Result<Ran, TreeError> {
     let tree = planted(alloc, source)?;
+    run_from(rt, alloc, &tree, target, text, fail_at)
+}
+
+// The same from a tree.
+pub fn run_from<R: Threads + Sync>(
+    rt: &R,
+    alloc: Global,
+    tree: &MemTree,
+    target: &[Entry],
+    text: &str,
+    fail_at: Option<u64>,
+) -> Result<Ran, TreeError> {
     let mut target = target_of(alloc, target)?;
     let words = words(alloc, text)?;
     let mut sink = MemSink::new(alloc, fail_at)?;
     let none = Fails::none(alloc);
-    let mut source = MemSource::new(&tree, &none, &none);
+    let mut source = MemSource::new(tree, &none, &none);
     let words = words.as_slice();
     let answer = distcp(rt, alloc, words, &mut source, &mut target, &mut sink);
     Ok(Ran {
