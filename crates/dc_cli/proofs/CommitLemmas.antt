@@ -93,7 +93,7 @@ way_more path i name h e = take_more path i name h ∙ ap (λ x. take i path ++ 
 one_folder : (item : Item) (b : Bool) → item.dir ≡ b → b ≡ true → filter is_dir_item (item ∷ []) ≡ item ∷ []
 one_folder item b e h = ap (λ c. cond c (item ∷ []) []) (e ∙ h)
 
-folders_more : (base : Names) (items : List Item) (i : ℕ) (item : Item) → item ≡ get_or items i item → i < length items → item.dir ≡ true → folder_places base (take (i + 1) items) ≡ folder_places base (take i items) ++ (base ++ item.rel) ∷ []
+pub folders_more : (base : Names) (items : List Item) (i : ℕ) (item : Item) → item ≡ get_or items i item → i < length items → item.dir ≡ true → folder_places base (take (i + 1) items) ≡ folder_places base (take i items) ++ (base ++ item.rel) ∷ []
 folders_more base items i item is h e =
     ap (folder_places base) (take_more items i item h ∙ ap (λ x. take i items ++ x ∷ []) (sym is))
     ∙ ap (map (place_of base)) (filter-append is_dir_item (take i items) (item ∷ []) ∙ ap (λ xs. filter is_dir_item (take i items) ++ xs) (one_folder item item.dir refl e))

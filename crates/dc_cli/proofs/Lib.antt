@@ -1,5 +1,8 @@
 pub mod CopyLemmas
+pub mod ReadableLemmas
 pub mod CommitLemmas
+pub mod MakeLemmas
+pub mod LandLemmas
 pub mod ListingLemmas
 pub mod ListingStops
 pub mod OutputLemmas
@@ -12,3 +15,4 @@ pub mod WordLemmas
 pub mod CauseLemmas
 pub mod VerdictLemmas
 pub mod DrillLemmas
+pub mod DenialLemmas

@@ -20,7 +20,7 @@ use Rattle.dc_cli.specs.declared.listing.Item.{Item}
 use Rattle.dc_cli.proofs.PartLemmas.{both_second, kept, ascending-filter, found-once, found-filter}
 
 -- ---- directories that are made, at one path
-abbrev has_path : List Names → Names → Bool
+abbrev pub has_path : List Names → Names → Bool
 has_path paths q = list_any (λ p. same_path p q) paths
 
 twice_made : (b : Bool) (o : Option Node) (c : Bool) → cond b (made (cond c (made o) o)) (cond c (made o) o) ≡ cond (c || b) (made o) o
@@ -31,11 +31,11 @@ twice_made true (Some n) false = refl
 twice_made false o true = refl
 twice_made false o false = refl
 
-made_at : (ps : List Names) (t : Tree) (q : Names) → all_made ps t q ≡ cond (has_path ps q) (made (t q)) (t q)
+pub made_at : (ps : List Names) (t : Tree) (q : Names) → all_made ps t q ≡ cond (has_path ps q) (made (t q)) (t q)
 made_at [] t q = refl
 made_at (p ∷ ps) t q = made_at ps (updated t p made) q ∙ twice_made (has_path ps q) (t q) (same_path p q)
 
-has_path-append : (ps qs : List Names) (q : Names) → has_path (ps ++ qs) q ≡ (has_path ps q || has_path qs q)
+pub has_path-append : (ps qs : List Names) (q : Names) → has_path (ps ++ qs) q ≡ (has_path ps q || has_path qs q)
 has_path-append [] qs q = refl
 has_path-append (p ∷ ps) qs q = let ih = has_path-append ps qs q in grind (arith, ih)
 
@@ -96,7 +96,7 @@ way_at_end [] (y ∷ r) = refl
 way_at_end (x ∷ d) r = refl
 
 -- at the target or under it: the way has the target alone
-way_at : (d r : Names) → has_path (ways d) (d ++ r) ≡ (not (is_root d) && is_root r)
+pub way_at : (d r : Names) → has_path (ways d) (d ++ r) ≡ (not (is_root d) && is_root r)
 way_at [] r = refl
 way_at (x ∷ d) r =
     way_first x x d (d ++ r)
@@ -109,7 +109,7 @@ some_or : (b : Bool) (x : Item) (o : Option Item) → (b || is_some o) ≡ is_so
 some_or true x o = refl
 some_or false x o = refl
 
-folders_below : (d : Names) (items : List Item) (q r : Names) → cut d q ≡ Some r → has_path (map (place_of d) items) q ≡ is_some (found rel_of items r)
+pub folders_below : (d : Names) (items : List Item) (q r : Names) → cut d q ≡ Some r → has_path (map (place_of d) items) q ≡ is_some (found rel_of items r)
 folders_below d [] q r e = refl
 folders_below d (x ∷ items) q r e =
     ap (λ b. b || has_path (map (place_of d) items) q) (same_path-cut d (rel_of x) q r e)

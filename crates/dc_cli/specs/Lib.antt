@@ -6,7 +6,9 @@ pub mod Result
 pub mod Effects
 pub mod Phases
 pub mod Ready
+pub mod Readable
 pub mod Steps
+pub mod Makeable
 pub mod Numbers
 pub mod Output
 pub mod Pieces

@@ -19,6 +19,11 @@ is_decided (outcome.Changed path) = false
 is_decided outcome.Memory = false
 is_decided e = true
 
+-- a store denied what it showed in this run
+abbrev pub is_denied : Outcome → Bool
+is_denied (outcome.Changed path) = true
+is_denied e = false
+
 -- a decided outcome that does not commit
 abbrev pub is_refused : Outcome → Bool
 is_refused e = is_decided e && not (is_committed e)

@@ -1,12 +1,14 @@
 //! What a run does to the target: directories are made, files land, temporaries are swept.
 #![tactic(auto)]
 
-ghost use Rattle.std.specs.Prelude.{◌≡◌, ℕ, ◌+◌, ◌^◌, ◌<◌, ◌≤◌, ◌++◌, map, take, length, true, IfOk, IfErr, OnOk, OnErr, IsErrOf};
+ghost use Rattle.std.specs.Prelude.{◌≡◌, ℕ, ◌+◌, ◌^◌, ◌<◌, ◌≤◌, ◌++◌, map, take, length, true, false, IfOk, IfErr, IfSome, OnOk, OnErr, IsErrOf};
 ghost use Rattle.std.specs.Option.{option_map};
 ghost use Rattle.dc_attrs.specs.Trees.{updated, made};
 ghost use Rattle.dc_fs.specs.Answers.{Changes};
 ghost use Rattle.dc_fs.specs.Causes.{Rose, HasCause};
 ghost use Rattle.dc_cli.specs.Phases.{ways, dir_places, folder_places, all_made};
+ghost use Rattle.dc_cli.specs.Items.{fits};
+ghost use Rattle.dc_cli.specs.Makeable.{is_step_changed, is_write_refusal, CanMakeAt, CanMake, CanMakeAll, CanLandAt, CanLandAll};
 ghost use Rattle.dc_cli.specs.Ready.{content_in};
 ghost use Rattle.dc_cli.specs.Steps.{is_step_fault, LandsAll, Landing};
 
@@ -29,7 +31,8 @@ pub enum StepError {
 
 // What is answered of a call at a path that the target refused after so many elements.
 fn stopped(alloc: Global, error: WriteError, path: &Path, done: u64) -> StepError
-    ensures { is_step_fault result ≡ true → error ≡ WriteError.Fault }
+    ensures fault { is_step_fault result ≡ true → error ≡ WriteError.Fault }
+    ensures changed { is_step_changed result ≡ true → is_write_refusal error ≡ true }
 {
     match error {
         WriteError::Fault => StepError::Fault { done },
@@ -44,6 +47,7 @@ fn stopped(alloc: Global, error: WriteError, path: &Path, done: u64) -> StepErro
 // A path under the base. One that passes the limits of a path is refused as missing.
 fn place_under(alloc: Global, base: &Path, rel: &Path) -> Result<Path, WriteError>
     ensures place { IfOk result (λ place. place ≡ base.now ++ rel.now) }
+    ensures limits { IfErr result (λ e. is_write_refusal e ≡ true → fits (base.now ++ rel.now) ≡ false) }
     ensures no_fault { IsErrOf result WriteError.Fault → ⊥ }
 {
     match base.join(alloc, rel) {
@@ -56,6 +60,7 @@ fn place_under(alloc: Global, base: &Path, rel: &Path) -> Result<Path, WriteErro
 // Makes a directory where nothing stands.
 fn make_place<T: Target>(alloc: Global, target: &mut T, place: &Path) -> Result<(), WriteError>
     ensures tree { Changes (λ t. updated t place.now made) (T.tree target.old) (T.tree target.new) result }
+    ensures changed { IfErr result (λ e. is_write_refusal e ≡ true → IfSome (T.tree target.old) (λ t. CanMakeAt t place.now → ⊥)) }
     ensures rest { T.rest target.new ≡ T.rest target.old }
     ensures cause { HasCause (T.faults target.old) (T.faults target.new) result WriteError.Fault }
 {
@@ -69,6 +74,7 @@ fn make_place<T: Target>(alloc: Global, target: &mut T, place: &Path) -> Result<
 // Makes the directories on the way to a path, and the one at it.
 fn make_way<T: Target>(alloc: Global, target: &mut T, place: &Path) -> Result<(), StepError>
     ensures ok { OnOk result (T.tree target.new ≡ option_map (all_made (ways place.now)) (T.tree target.old)) }
+    ensures changed { IfErr result (λ e. is_step_changed e ≡ true → IfSome (T.tree target.old) (λ t. CanMake t (ways place.now) → ⊥)) }
     ensures rest { T.rest target.new ≡ T.rest target.old }
     ensures later { T.faults target.old ≤ T.faults target.new }
     ensures cause { IfErr result (λ e. is_step_fault e ≡ true → Rose (T.faults target.old) (T.faults target.new)) }
@@ -92,6 +98,7 @@ fn way_on(alloc: Global, front: &Path, path: &Path, count: usize) -> Result<Path
     requires inside { count < length path.now }
     requires front { front.now ≡ take count path.now }
     ensures way { IfOk result (λ way. way ≡ take (count + 1) path.now) }
+    ensures limits { IfErr result (λ e. is_write_refusal e ≡ true → fits (take (count + 1) path.now) ≡ false) }
     ensures no_fault { IsErrOf result WriteError.Fault → ⊥ }
 {
     let Some(name) = path.name(count) else {
@@ -112,6 +119,7 @@ fn make_item<T: Target>(
     item: &Item,
 ) -> Result<(), WriteError>
     ensures tree { Changes (λ t. updated t (base.now ++ item.now.rel) made) (T.tree target.old) (T.tree target.new) result }
+    ensures changed { IfErr result (λ e. is_write_refusal e ≡ true → IfSome (T.tree target.old) (λ t. CanMakeAt t (base.now ++ item.now.rel) → ⊥)) }
     ensures rest { T.rest target.new ≡ T.rest target.old }
     ensures cause { HasCause (T.faults target.old) (T.faults target.new) result WriteError.Fault }
 {
@@ -129,6 +137,7 @@ fn make_items<T: Target>(
 ) -> Result<(), StepError>
     requires { first + length items.now < 2 ^ 64 }
     ensures ok { OnOk result (T.tree target.new ≡ option_map (all_made (folder_places base.now items.now)) (T.tree target.old)) }
+    ensures changed { IfErr result (λ e. is_step_changed e ≡ true → IfSome (T.tree target.old) (λ t. CanMake t (folder_places base.now items.now) → ⊥)) }
     ensures rest { T.rest target.new ≡ T.rest target.old }
     ensures later { T.faults target.old ≤ T.faults target.new }
     ensures cause { IfErr result (λ e. is_step_fault e ≡ true → Rose (T.faults target.old) (T.faults target.new)) }
@@ -155,6 +164,7 @@ pub fn make_dirs<T: Target>(
 ) -> Result<(), StepError>
     requires { length items.now ≤ 1048576 }
     ensures ok { OnOk result (T.tree target.new ≡ option_map (all_made (dir_places place.now items.now)) (T.tree target.old)) }
+    ensures changed { IfErr result (λ e. is_step_changed e ≡ true → IfSome (T.tree target.old) (λ t. CanMakeAll t place.now items.now → ⊥)) }
     ensures rest { T.rest target.new ≡ T.rest target.old }
     ensures later { T.faults target.old ≤ T.faults target.new }
     ensures cause { IfErr result (λ e. is_step_fault e ≡ true → Rose (T.faults target.old) (T.faults target.new)) }
@@ -173,6 +183,7 @@ fn land_one<T: Target>(
 ) -> Result<(), WriteError>
     requires { 1 ≤ (T.rest target.old).scratch }
     ensures ok { OnOk result (Landing base.now (content_in T.Desk.Temp.content file) (T.tree target.old) (T.tree target.new) (T.rest target.old) (T.rest target.new)) }
+    ensures changed { IfErr result (λ e. is_write_refusal e ≡ true → IfSome (T.tree target.old) (λ t. CanLandAt t base.now (content_in T.Desk.Temp.content file) → ⊥)) }
     ensures kept { OnErr result (T.rest target.new ≡ T.rest target.old) }
     ensures cause { HasCause (T.faults target.old) (T.faults target.new) result WriteError.Fault }
 {
@@ -196,6 +207,7 @@ pub fn land_all<T: Target>(
     requires few { length files.items < 2 ^ 64 }
     requires counted { length files.items ≤ (T.rest target.old).scratch }
     ensures ok { OnOk result (LandsAll base.now (map (content_in T.Desk.Temp.content) files.items) (T.tree target.old) (T.tree target.new) (T.rest target.old) (T.rest target.new)) }
+    ensures changed { IfErr result (λ e. is_step_changed e ≡ true → IfSome (T.tree target.old) (λ t. CanLandAll t base.now (map (content_in T.Desk.Temp.content) files.items) → ⊥)) }
     ensures later { T.faults target.old ≤ T.faults target.new }
     ensures cause { IfErr result (λ e. is_step_fault e ≡ true → Rose (T.faults target.old) (T.faults target.new)) }
 {

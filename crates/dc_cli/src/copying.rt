@@ -1,10 +1,11 @@
 //! The copying of files from the source to temporaries.
 #![tactic(auto)]
 
-ghost use Rattle.std.specs.Prelude.{◌≡◌, ℕ, ◌+◌, ◌<◌, ◌≤◌, [], ◌++◌, map, filter, take, drop, length, Some, None, IsSome, IfOk, IfSome, OnOk, IsErrOf, false};
+ghost use Rattle.std.specs.Prelude.{◌≡◌, ℕ, ◌+◌, ◌<◌, ◌≤◌, [], ◌++◌, map, filter, take, drop, length, Some, None, IsSome, IfOk, IfErr, IfSome, OnOk, IsErrOf, true, false};
 ghost use Rattle.dc_fs.specs.Causes.{raised, counted, HasCause};
 ghost use Rattle.dc_fs.specs.Temporaries.{told_if, more};
 ghost use Rattle.dc_cli.specs.Phases.{file_bytes, is_file_item, contents_of, content_of};
+ghost use Rattle.dc_cli.specs.Readable.{is_changed, HasFile, IsReadable, AllReadable};
 ghost use Rattle.dc_cli.specs.Ready.{content_in, is_fault};
 
 use crate::listing::Item;
@@ -93,13 +94,17 @@ fn read_whole<S: Store>(
     ensures cause { HasCause (S.faults source.old) (S.faults source.new) result CopyError.SourceFault }
     ensures no_desk { IsErrOf result CopyError.DeskFault → ⊥ }
     ensures read { OnOk result (IfSome (S.tree source.old) (λ s. into.new ≡ take (length into.new) (drop at (file_bytes (s path.now))))) }
+    ensures changed { IfErr result (λ e. is_changed e ≡ true → IfSome (S.tree source.old) (λ s. (size : ℕ) → HasFile s path.now size → at + length into.old ≤ size → ⊥)) }
 {
     match source.read_at(alloc, path, at, into) {
         Ok(count) if count == into.len() => Ok(()),
         Ok(_) => Err(changed(alloc, path)),
         Err(ReadError::Fault) => Err(CopyError::SourceFault),
         Err(ReadError::Memory) => Err(CopyError::Memory),
-        Err(_) => Err(changed(alloc, path)),
+        Err(ReadError::Missing) => Err(changed(alloc, path)),
+        Err(ReadError::NotDir) => Err(changed(alloc, path)),
+        Err(ReadError::IsDir) => Err(changed(alloc, path)),
+        Err(ReadError::Short) => Err(changed(alloc, path)),
     }
 }
 
@@ -121,6 +126,7 @@ fn copy_piece<S: Store, D: Desk>(
     ensures desk_cause { HasCause (D.faults desk.old) (D.faults desk.new) result CopyError.DeskFault }
     ensures working { OnOk result (IsSome (D.current desk.new)) }
     ensures copied { OnOk result (IfSome (S.tree source.old) (λ s. D.current desk.new ≡ more (take (length into.new) (drop at (file_bytes (s path.now)))) (D.current desk.old))) }
+    ensures changed { IfErr result (λ e. is_changed e ≡ true → IfSome (S.tree source.old) (λ s. (size : ℕ) → HasFile s path.now size → at + length into.old ≤ size → ⊥)) }
 {
     read_whole(alloc, source, path, at, into)?;
     desk.append(alloc, into)?;
@@ -146,6 +152,7 @@ fn copy_pieces<S: Store, D: Desk>(
     ensures desk_cause { HasCause (D.faults desk.old) (D.faults desk.new) result CopyError.DeskFault }
     ensures working { OnOk result (IsSome (D.current desk.new)) }
     ensures copied { OnOk result (IfSome (S.tree source.old) (λ s. D.current desk.new ≡ Some (told_if (D.tells desk.old) (take size (file_bytes (s path.now)))))) }
+    ensures changed { IfErr result (λ e. is_changed e ≡ true → IfSome (S.tree source.old) (λ s. HasFile s path.now size → ⊥)) }
 {
     let mut done = 0u64;
     'pieces: while done < size {
@@ -157,6 +164,8 @@ fn copy_pieces<S: Store, D: Desk>(
 }
 
 /// Copies a file to a temporary of its own.
+///
+/// `Changed` comes only where the source denies a file of this size.
 pub fn copy_file<S: Store, D: Desk>(
     alloc: Global,
     source: &mut S,
@@ -173,6 +182,7 @@ pub fn copy_file<S: Store, D: Desk>(
     ensures cause { HasCause (S.faults source.old) (S.faults source.new) result CopyError.SourceFault }
     ensures desk_cause { HasCause (D.faults desk.old) (D.faults desk.new) result CopyError.DeskFault }
     ensures copied { IfOk result (λ temp. IfSome (S.tree source.old) (λ s. D.Temp.content temp ≡ told_if (D.tells desk.old) (take size (file_bytes (s path.now))))) }
+    ensures changed { IfErr result (λ e. is_changed e ≡ true → IfSome (S.tree source.old) (λ s. HasFile s path.now size → ⊥)) }
 {
     desk.create(alloc)?;
     copy_pieces(alloc, source, desk, path, size, buffer)?;
@@ -197,6 +207,7 @@ fn copy_item<S: Store, D: Desk>(
     ensures cause { HasCause (S.faults source.old) (S.faults source.new) result CopyError.SourceFault }
     ensures desk_cause { HasCause (D.faults desk.old) (D.faults desk.new) result CopyError.DeskFault }
     ensures copied { IfOk result (λ file. IfSome (S.tree source.old) (λ s. content_in D.Temp.content file ≡ content_of (D.tells desk.old) s root.now item.now)) }
+    ensures changed { IfErr result (λ e. is_changed e ≡ true → IfSome (S.tree source.old) (λ s. IsReadable s root.now item.now → ⊥)) }
 {
     let rel = item.rel.copy(alloc)?;
     let path = match root.join(alloc, &item.rel) {
@@ -209,6 +220,8 @@ fn copy_item<S: Store, D: Desk>(
 }
 
 /// Copies the files of a listing, in its order, to a temporary each.
+///
+/// `Changed` comes only where the source denies the file of an item, or the item's path in it passes the limits.
 pub fn copy_files<S: Store, D: Desk>(
     alloc: Global,
     source: &mut S,
@@ -225,6 +238,7 @@ pub fn copy_files<S: Store, D: Desk>(
     ensures cause { HasCause (S.faults source.old) (S.faults source.new) result CopyError.SourceFault }
     ensures desk_cause { HasCause (D.faults desk.old) (D.faults desk.new) result CopyError.DeskFault }
     ensures copied { IfOk result (λ files. IfSome (S.tree source.old) (λ s. map (content_in D.Temp.content) files.items ≡ contents_of (D.tells desk.old) s root.now items.now)) }
+    ensures changed { IfErr result (λ e. is_changed e ≡ true → IfSome (S.tree source.old) (λ s. AllReadable s root.now items.now → ⊥)) }
 {
     let mut files = Vec::new(alloc);
     for item in items {

@@ -7,10 +7,12 @@ ghost use Rattle.std.specs.Option.{is_some};
 ghost use Rattle.dc_attrs.specs.Trees.{IsTree, seen};
 ghost use Rattle.dc_fs.specs.Causes.{Rose};
 ghost use Rattle.dc_cli.specs.Checks.{checked, is_committed, is_target_fault};
-ghost use Rattle.dc_cli.specs.Verdict.{is_decided, IsRefused, IsListable};
+ghost use Rattle.dc_cli.specs.Verdict.{is_decided, is_denied, IsRefused, IsListable};
 ghost use Rattle.dc_cli.specs.Effects.{GainsEffects, AreCounts};
 ghost use Rattle.dc_cli.specs.Listed.{listed};
-ghost use Rattle.dc_cli.specs.Phases.{contents_of, counts_from, is_file_item, is_dir_item, length_of};
+ghost use Rattle.dc_cli.specs.Phases.{all_made, dir_places, contents_of, counts_from, is_file_item, is_dir_item, length_of};
+ghost use Rattle.dc_cli.specs.Makeable.{CanMakeAll, CanLandAll};
+ghost use Rattle.dc_cli.specs.Readable.{AllReadable};
 ghost use Rattle.dc_cli.specs.Ready.{content_in};
 ghost use Rattle.dc_cli.specs.Result.{IsResult};
 ghost use Rattle.dc_cli.specs.Runs.{outcome_of_copy, outcome_of_opening, outcome_of_step, Finishes};
@@ -75,6 +77,7 @@ fn open_desk<T: Target>(alloc: Global, target: &mut T) -> Result<T::Desk, Outcom
     ensures later { T.faults target.old ≤ T.faults target.new }
     ensures cause { IfErr result (λ e. is_target_fault e ≡ true → Rose (T.faults target.old) (T.faults target.new)) }
     ensures stops { IfErr result (λ e. is_decided e ≡ false) }
+    ensures never_denied { IfErr result (λ e. is_denied e ≡ false) }
     ensures no_source { IfErr result (λ e. e ≡ Outcome.SourceFault → ⊥) }
     ensures tells { IfOk result (λ desk. T.Desk.tells desk ≡ is_some (T.tree target.old)) }
     ensures made { IfOk result (λ desk. T.Desk.made desk ≡ 0) }
@@ -102,6 +105,7 @@ fn settle<S: Store, T: Target>(
     ensures few { IfOk result (λ files. length files.items ≤ 1048576) }
     ensures counted { IfOk result (λ files. length files.items ≤ (T.rest target.new).scratch) }
     ensures copied { IfOk result (λ files. IfSome (S.tree source.old) (λ s. map (content_in T.Desk.Temp.content) files.items ≡ contents_of (is_some (T.tree target.old)) s root.now items.now)) }
+    ensures never_denied { IfErr result (λ e. is_denied e ≡ true → IfSome (S.tree source.old) (λ s. AllReadable s root.now items.now → ⊥)) }
     ensures stops { IfErr result (λ e. is_decided e ≡ false) }
     ensures later { S.faults source.old ≤ S.faults source.new }
     ensures cause { IfErr result (λ e. e ≡ Outcome.SourceFault → Rose (S.faults source.old) (S.faults source.new)) }
@@ -133,6 +137,7 @@ fn finish<T: Target>(
     requires few { length files.items ≤ 1048576 }
     requires counted { length files.items ≤ (T.rest target.old).scratch }
     ensures finished { OnOk result (Finishes place.now items.now (map (content_in T.Desk.Temp.content) files.items) (T.tree target.old) (T.tree target.new) (T.rest target.old) (T.rest target.new)) }
+    ensures never_denied { IfErr result (λ e. is_denied e ≡ true → IfSome (T.tree target.old) (λ t. CanMakeAll t place.now items.now → CanLandAll (all_made (dir_places place.now items.now) t) place.now (map (content_in T.Desk.Temp.content) files.items) → ⊥)) }
     ensures stops { IfErr result (λ e. is_decided e ≡ false) }
     ensures no_source { IfErr result (λ e. e ≡ Outcome.SourceFault → ⊥) }
     ensures later { T.faults target.old ≤ T.faults target.new }
@@ -222,6 +227,7 @@ pub fn run<S: Store, T: Target>(
     ensures tree { S.tree source.new ≡ S.tree source.old }
     ensures rest { S.rest source.new ≡ S.rest source.old }
     ensures stops { IfErr result (λ e. is_committed e ≡ false) }
+    ensures never_denied { IfErr result (λ e. is_denied e ≡ true → IfSome (S.tree source.old) (λ s. IsTree s → IfSome (T.tree target.old) (λ t. IsTree t → ⊥))) }
     ensures refused { IfErr result (λ e. is_decided e ≡ true → IfSome (S.tree source.old) (λ s. IsTree s → IfSome (T.tree target.old) (λ t. IsRefused root.now place.now s t e))) }
     ensures untouched { IfErr result (λ e. is_decided e ≡ true → T.tree target.new ≡ T.tree target.old) }
     ensures unchanged { IfErr result (λ e. is_decided e ≡ true → T.rest target.new ≡ T.rest target.old) }

@@ -4,12 +4,13 @@
 ghost use Rattle.std.specs.Prelude.{◌≡◌, ◌≤◌, true, false, map, length, Ok, Err, IfOk, IfErr, IfSome, OnOk, IsTrue};
 ghost use Rattle.std.specs.List.{list_all};
 ghost use Rattle.dc_path.specs.Order.{is_ascending};
+ghost use Rattle.dc_path.specs.Paths.{IsPath};
 ghost use Rattle.dc_attrs.specs.Trees.{IsTree, is_hidden, seen};
 ghost use Rattle.dc_path.specs.Unless.{GivesUnless};
 ghost use Rattle.dc_fs.specs.Causes.{Rose, HasCause};
 ghost use Rattle.dc_cli.specs.Items.{rel_of, fits_under, AreItems};
 ghost use Rattle.dc_cli.specs.Listed.{listed};
-ghost use Rattle.dc_cli.specs.Verdict.{is_decided, IsRefused};
+ghost use Rattle.dc_cli.specs.Verdict.{is_decided, is_denied, IsRefused};
 ghost use Rattle.dc_cli.specs.Checks.{judged, checked, Checks, is_absent, is_target_fault, is_committed, outcome_of_listing};
 
 use crate::listing::{Item, ListError, list_tree};
@@ -24,7 +25,8 @@ const SNAPSHOT: &str = ".snapshot";
 
 // Whether a path has the name of snapshots.
 fn in_snapshot(path: &Path) -> bool
-    ensures { result ≡ is_hidden path.now }
+    ensures hidden { result ≡ is_hidden path.now }
+    ensures path { IsPath path.now }
 {
     for place in 0..path.len() {
         let Some(name) = path.name(place) else {
@@ -108,6 +110,8 @@ fn check_paths<S: Store, T: Store>(
     ensures target_later { T.faults target.old ≤ T.faults target.new }
     ensures target_cause { IfErr result (λ e. is_target_fault e ≡ true → Rose (T.faults target.old) (T.faults target.new)) }
     ensures stops { IfErr result (λ e. is_committed e ≡ false) }
+    ensures never_denied { IfErr result (λ e. is_denied e ≡ false) }
+    ensures place { OnOk result (IsPath place.now) }
     ensures answers { IfSome (S.tree source.old) (λ s. IfSome (T.tree target.old) (λ t. Checks (checked root.now place.now (seen s root.now) (seen t place.now)) result)) }
 {
     let from = look_at_source(source, root)?;
@@ -162,6 +166,8 @@ pub fn survey<S: Store, T: Store>(
     ensures target_cause { IfErr result (λ e. is_target_fault e ≡ true → Rose (T.faults target.old) (T.faults target.new)) }
     ensures stops { IfErr result (λ e. is_committed e ≡ false) }
     ensures refused { IfErr result (λ e. is_decided e ≡ true → IfSome (S.tree source.old) (λ s. IsTree s → IfSome (T.tree target.old) (λ t. IsRefused root.now place.now s t e))) }
+    ensures never_denied { IfErr result (λ e. is_denied e ≡ true → IfSome (S.tree source.old) (λ s. IsTree s → IfSome (T.tree target.old) (λ t. ⊥))) }
+    ensures place { OnOk result (IsPath place.now) }
     ensures ascending { IfOk result (λ items. IsTrue (is_ascending (map rel_of items))) }
     ensures few { IfOk result (λ items. length items ≤ 1048576) }
     ensures listed { IfOk result (λ items. IfSome (S.tree source.old) (λ s. IsTree s → AreItems (listed s root.now) items)) }

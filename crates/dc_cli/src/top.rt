@@ -8,7 +8,7 @@ ghost use Rattle.dc_attrs.specs.Trees.{IsTree};
 ghost use Rattle.dc_fs.specs.Causes.{Rose};
 ghost use Rattle.dc_fs.specs.Temporaries.{WriteStops};
 ghost use Rattle.dc_cli.specs.Checks.{is_committed, is_target_fault};
-ghost use Rattle.dc_cli.specs.Verdict.{is_decided, is_refused, IsVerdict, AllowsRun};
+ghost use Rattle.dc_cli.specs.Verdict.{is_decided, is_denied, is_refused, IsVerdict, AllowsRun};
 ghost use Rattle.dc_cli.specs.Effects.{GainsEffects, AreCounts, none_counted};
 ghost use Rattle.dc_cli.specs.Listed.{listed};
 ghost use Rattle.dc_cli.specs.Output.{lines};
@@ -40,6 +40,7 @@ fn run_words<S: Store, T: Target>(
     ensures counts { IfOk result (λ counts. (root place : Names) → Asks words.now root place → IfSome (S.tree source.old) (λ s. IsTree s → AreCounts (listed s root) place counts)) }
     ensures refused { IfErr result (λ e. is_decided e ≡ true → IfSome (S.tree source.old) (λ s. IsTree s → IfSome (T.tree target.old) (λ t. IsTree t → IsVerdict words.now s t e))) }
     ensures allowed { OnOk result (IfSome (S.tree source.old) (λ s. IsTree s → IfSome (T.tree target.old) (λ t. IsTree t → AllowsRun words.now s t))) }
+    ensures never_denied { IfErr result (λ e. is_denied e ≡ true → IfSome (S.tree source.old) (λ s. IsTree s → IfSome (T.tree target.old) (λ t. IsTree t → ⊥))) }
     ensures untouched { IfErr result (λ e. is_decided e ≡ true → T.tree target.new ≡ T.tree target.old) }
     ensures unchanged { IfErr result (λ e. is_decided e ≡ true → T.rest target.new ≡ T.rest target.old) }
     ensures cause { IfErr result (λ e. e ≡ Outcome.SourceFault → Rose (S.faults source.old) (S.faults source.new)) }
@@ -106,8 +107,10 @@ pub fn distcp<R: Threads + Sync, S: Source, T: Target, O: Sink>(
 ) -> Answer
     ensures source { S.tree source.new ≡ S.tree source.old }
 
-    // Words and trees decide the outcome, unless a store fails or denies what it showed, or memory runs out.
+    // Words and trees decide the outcome, unless a store fails or memory runs out. A store that denies what it showed does
+    // not tell a tree.
     ensures verdict { IfSome (S.tree source.old) (λ s. IsTree s → IfSome (T.tree target.old) (λ t. IsTree t → is_decided result.outcome ≡ true → IsVerdict words.now s t result.outcome)) }
+    ensures never_denied { is_denied result.outcome ≡ true → IfSome (S.tree source.old) (λ s. IsTree s → IfSome (T.tree target.old) (λ t. IsTree t → ⊥)) }
     ensures untouched { is_refused result.outcome ≡ true → T.tree target.new ≡ T.tree target.old }
     ensures unchanged { is_refused result.outcome ≡ true → T.rest target.new ≡ T.rest target.old }
     ensures source_fault { result.outcome ≡ Outcome.SourceFault → Rose (S.faults source.old) (S.faults source.new) }

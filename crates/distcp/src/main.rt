@@ -108,7 +108,11 @@ fn read_words<R: Env + AllocGlobal>(rt: &R) -> io::Result<Vec<String>> {
 }
 
 // Says why there are no words, and answers the exit status.
-fn no_words<O: Sink>(out: &mut O, kind: ErrorKind) -> u8 {
+fn no_words<O: Sink>(out: &mut O, kind: ErrorKind) -> u8
+    ensures memory { kind ≡ ErrorKind.OutOfMemory → result ≢ 28 → (result ≡ 24) × (O.bytes out.new ≡ option_map (λ old. old ++ codes "distcp: no memory\n") (O.bytes out.old)) }
+    ensures word { kind ≢ ErrorKind.OutOfMemory → result ≢ 28 → (result ≡ 255) × (O.bytes out.new ≡ option_map (λ old. old ++ codes "distcp: bad word\n") (O.bytes out.old)) }
+    ensures unprinted { result ≡ 28 → Rose (O.faults out.old) (O.faults out.new) }
+{
     match kind {
         ErrorKind::OutOfMemory => say(out, "distcp: no memory\n", NO_MEMORY),
         _ => say(out, "distcp: bad word\n", REFUSED),

@@ -1,5 +1,7 @@
-use Rattle.std.proofs.Common.{◌∙◌, arith}
+use Rattle.std.proofs.Common.{◌∙◌, refl, suc, take, add-one, sym, ap, arith}
 use Rattle.dc_cli.proofs.CommitLemmas.{way_step, way_end}
+use Rattle.dc_cli.specs.Items.{fits}
+use Rattle.dc_cli.proofs.MakeLemmas.{never_fits, way_stop}
 use Rattle.dc_cli.proofs.commit.make_way.Goals as goal
 
 pub loop-done-preserved : goal.loop-done-preserved
@@ -13,3 +15,16 @@ loop-done-preserved g c = record {
 
 pub returns-clause-ok : goal.returns-clause-ok
 returns-clause-ok g c = way_end c.args.place.now c.loop-done.done (g.T.Store.tree c.args.target.now) (g.T.Store.tree c.loop-done.target) (omega arith) c.loop-done.invariant.tree
+
+pub returns-in-Err-clause-changed : goal.returns-in-Err-clause-changed
+returns-in-Err-clause-changed g c = λ e.
+    way_stop c.args.place.now c.loop-done.done (take (suc c.loop-done.done) c.args.place.now) (g.T.Store.tree c.args.target.now) (g.T.Store.tree c.loop-done.target)
+    (omega arith) refl c.loop-done.invariant.tree
+    (never_fits (take (suc c.loop-done.done) c.args.place.now) (g.T.Store.tree c.loop-done.target)
+    (ap (λ k. fits (take k c.args.place.now)) (sym (add-one c.loop-done.done)) ∙ c.in-Err.ensures.limits (c.stopped.ensures.changed e)))
+
+pub returns-in-Err-make_place-clause-changed : goal.returns-in-Err-make_place-clause-changed
+returns-in-Err-make_place-clause-changed g c = λ e.
+    way_stop c.args.place.now c.loop-done.done c.in-Ok.next (g.T.Store.tree c.args.target.now) (g.T.Store.tree c.loop-done.target)
+    (omega arith) (c.in-Ok.ensures.way ∙ ap (λ k. take k c.args.place.now) (add-one c.loop-done.done)) c.loop-done.invariant.tree
+    (c.in-Err-make_place.ensures.changed (c.stopped-in-Err-make_place.ensures.changed e))

@@ -1,9 +1,12 @@
-use Rattle.std.proofs.Common.{◌≡◌, ◌∙◌, ◌∷◌, [], Bool, arith, length, map, refl, ap, subst, Option, IfSome, length-append}
+use Rattle.std.proofs.Common.{◌≡◌, ◌∙◌, ◌∷◌, [], Bool, true, arith, length, map, refl, ap, subst, Option, IfSome, length-append}
 use Rattle.std.proofs.lemmas.List.{map-append}
+use Rattle.std.proofs.lemmas.Result.{err_from_is_err_and}
 use Rattle.dc_attrs.specs.Trees.{Tree}
 use Rattle.dc_cli.specs.Phases.{content_of}
+use Rattle.dc_cli.specs.Readable.{is_changed, IsReadable}
 use Rattle.dc_cli.specs.Ready.{content_in}
 use Rattle.dc_cli.proofs.CopyLemmas.{contents_start, contents_step}
+use Rattle.dc_cli.proofs.ReadableLemmas.{item_changed}
 use Rattle.dc_cli.proofs.copying.copy_files.Goals as goal
 
 pub loop-item-init : goal.loop-item-init
@@ -35,3 +38,9 @@ loop-item-preserved g c = record {
       (subst (λ (o : Option Tree). IfSome o (λ s. content_in g.D.Temp.Held.content c.in_ok-file.file ≡ content_of (g.D.Desk.tells c.args.desk.now) s c.args.root.now c.item-item.result)) c.loop-item.invariant.tree
       (subst (λ (b : Bool). IfSome (g.S.Store.tree c.loop-item.source) (λ s. content_in g.D.Temp.Held.content c.in_ok-file.file ≡ content_of b s c.args.root.now c.item-item.result)) c.loop-item.invariant.tells c.in_ok-file.ensures.copied));
 }
+
+pub returns-in_err-file-clause-changed : goal.returns-in_err-file-clause-changed
+returns-in_err-file-clause-changed g c =
+    let p = err_from_is_err_and c.from_residual.result c.from_residual.ensures.1 in
+    rw (p.1, p.2) (item_changed _ (g.S.Store.tree c.args.source.now) c.args.root.now c.args.items.now c.loop-item.item-index c.item-item.result c.loop-item-test.true c.item-item.is c.if-item.false
+    (subst (λ (o : Option Tree). is_changed c.in_err-file.field-0.0 ≡ true → IfSome o (λ s. IsReadable s c.args.root.now c.item-item.result → ⊥)) c.loop-item.invariant.tree c.in_err-file.ensures.changed))

@@ -1,9 +1,14 @@
-use Rattle.std.proofs.Common.{◌≡◌, ◌∙◌, List, map, ap, subst, IfSome}
+use Rattle.std.proofs.Common.{◌≡◌, ◌∙◌, List, map, ap, sym, subst, IfSome}
 use Rattle.std.specs.Option.{is_some}
 use Rattle.dc_fs.specs.Rest.{Rest}
 use Rattle.dc_cli.specs.Phases.{contents_of, counts_from}
 use Rattle.dc_cli.specs.Ready.{content_in}
 use Rattle.dc_cli.specs.Runs.{Finishes}
+use Rattle.dc_cli.specs.Makeable.{CanMakeAll, CanLandAll}
+use Rattle.dc_cli.specs.Phases.{all_made, dir_places}
+use Rattle.dc_cli.specs.Readable.{AllReadable}
+use Rattle.dc_cli.specs.Verdict.{is_denied}
+use Rattle.dc_cli.proofs.DenialLemmas.{settle_denied, finish_denied}
 use Rattle.dc_cli.specs.declared.listing.Item.{Item}
 use Rattle.dc_cli.proofs.RunLemmas.{copied_before, run_result, run_landed, run_counts, run_listable}
 use Rattle.dc_cli.proofs.engine.run.Goals as goal
@@ -36,3 +41,21 @@ returns-in-Ok-finish-clause-counts g c =
 pub returns-in-Ok-finish-clause-listable : goal.returns-in-Ok-finish-clause-listable
 returns-in-Ok-finish-clause-listable g c =
     run_listable (g.S.Store.tree c.args.source.now) c.args.root.now c.args.place.now c.in_ok-items.items c.in_ok-items.ensures.sources c.in_ok-items.ensures.places c.in_ok-items.ensures.few c.in_ok-items.ensures.listed
+
+pub returns-in-Err-clause-never_denied : goal.returns-in-Err-clause-never_denied
+returns-in-Err-clause-never_denied g c = λ h.
+    settle_denied (g.S.Store.tree c.args.source.now) (g.S.Store.tree c.survey.new.source) (g.T.Store.tree c.args.target.now) c.args.root.now c.in_ok-items.items
+    c.survey.ensures.tree c.in_ok-items.ensures.ascending c.in_ok-items.ensures.listed c.in_ok-items.ensures.sources
+    (subst (λ (items : List Item). IfSome (g.S.Store.tree c.survey.new.source) (λ s. AllReadable s c.args.root.now items → ⊥)) c.as_slice.ensures
+    (c.in-Err.ensures.never_denied (ap is_denied (sym c.give_up.ensures.outcome) ∙ h)))
+
+pub returns-clause-never_denied : goal.returns-clause-never_denied
+returns-clause-never_denied g c = λ h.
+    finish_denied (g.S.Store.tree c.args.source.now) (g.T.Store.tree c.args.target.now) (g.T.Store.tree c.settle.new.target) c.args.root.now c.args.place.now c.in_ok-items.items
+    (map (content_in g.T.Desk.Temp.Held.content) c.in-Ok.files.items)
+    (c.settle.ensures.target_tree ∙ c.survey.ensures.target_tree) c.in_ok-items.ensures.ascending c.in_ok-items.ensures.place c.in_ok-items.ensures.allowed c.in_ok-items.ensures.listed c.in_ok-items.ensures.places
+    (copied_before c.args.root.now c.in_ok-items.items (map (content_in g.T.Desk.Temp.Held.content) c.in-Ok.files.items)
+    (g.S.Store.tree c.args.source.now) (g.S.Store.tree c.survey.new.source) (g.T.Store.tree c.args.target.now) (g.T.Store.tree c.survey.new.target) c.survey.ensures.tree c.survey.ensures.target_tree
+    (subst (λ (items : List Item). IfSome (g.S.Store.tree c.survey.new.source) (λ s. map (content_in g.T.Desk.Temp.Held.content) c.in-Ok.files.items ≡ contents_of (is_some (g.T.Store.tree c.survey.new.target)) s c.args.root.now items)) c.as_slice.ensures c.in-Ok.ensures.copied))
+    (subst (λ (items : List Item). IfSome (g.T.Store.tree c.settle.new.target) (λ t. CanMakeAll t c.args.place.now items → CanLandAll (all_made (dir_places c.args.place.now items) t) c.args.place.now (map (content_in g.T.Desk.Temp.Held.content) c.in-Ok.files.items) → ⊥)) c.as_slice-2.ensures
+    (c.in-Err-finish.ensures.never_denied (ap is_denied (sym c.give_up-in-Err-finish.ensures.outcome) ∙ h)))

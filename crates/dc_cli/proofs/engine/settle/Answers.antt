@@ -2,6 +2,8 @@ use Rattle.std.proofs.Common.{◌≡◌, ◌∙◌, inr, Err, Bool, map, ap, sym
 use Rattle.dc_fs.specs.Causes.{counted}
 use Rattle.dc_fs.specs.Rest.{Rest}
 use Rattle.dc_cli.specs.Checks.{is_target_fault}
+use Rattle.dc_cli.specs.Verdict.{is_denied}
+use Rattle.dc_cli.proofs.DenialLemmas.{copy_denied}
 use Rattle.dc_cli.proofs.CauseLemmas.{copy_source, copy_desk, desk_rose}
 use Rattle.dc_cli.specs.Phases.{contents_of}
 use Rattle.dc_cli.specs.Ready.{content_in}
@@ -21,3 +23,6 @@ returns-clause-target_cause g c = λ h.
     c.in-Ok.ensures.faults
     (c.in-Err-copied.ensures.desk_cause.rose (ap Err (copy_desk c.in-Err-copied.error (ap is_target_fault (sym c.uncopied.ensures.outcome) ∙ h))))
     (ap (λ (r : Rest). r.desk_faults) c.rejoin_desk.ensures.rest ∙ ap (λ (r : Rest). counted r.desk_faults (g.T.Desk.Desk.faults c.copy_files-copied.new.desk)) c.open_desk.ensures.rest))
+
+pub returns-clause-never_denied : goal.returns-clause-never_denied
+returns-clause-never_denied g c = λ h. c.in-Err-copied.ensures.changed (copy_denied c.in-Err-copied.error (ap is_denied (sym c.uncopied.ensures.outcome) ∙ h))

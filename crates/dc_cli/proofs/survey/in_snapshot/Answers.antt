@@ -4,8 +4,8 @@ use Rattle.dc_attrs.specs.Trees.{snapshot}
 use Rattle.dc_cli.proofs.SurveyLemmas.{hidden_at, hidden_more}
 use Rattle.dc_cli.proofs.survey.in_snapshot.Goals as goal
 
-pub returns-then-eq : goal.returns-then-eq
-returns-then-eq c =
+pub returns-then-eq-clause-hidden : goal.returns-then-eq-clause-hidden
+returns-then-eq-clause-hidden c =
     let test : same_name snapshot c.in-Some.name.now ≡ true = ap (same_name snapshot) (sym c.as_str.ensures.value) ∙ sym c.if-eq.ensures in
     sym (hidden_at c.args.path.now c.loop-place.place c.in-Some.name.now (sym c.in-Some.ensures) test)
 

@@ -1,0 +1,58 @@
+-- Trees in which directories can be made and files can land (POSIX.1, mkdir and open).
+use Rattle.std.specs.Prelude.{◌≡◌, Bool, true, false, List, [], ◌∷◌, ◌++◌, Option, Some, None, ⊤}
+use Rattle.dc_path.specs.Paths.{Names}
+use Rattle.dc_attrs.specs.Trees.{Tree, updated, made}
+use Rattle.dc_attrs.specs.Refusals.{refused_dir, refused_put}
+use Rattle.dc_attrs.specs.declared.refusals.TreeError.{TreeError}
+use Rattle.dc_attrs.specs.declared.refusals.TreeError.TheVariants as tree_error
+use Rattle.dc_fs.specs.declared.errors.WriteError.{WriteError}
+use Rattle.dc_fs.specs.declared.errors.WriteError.TheVariants as write_error
+use Rattle.dc_cli.specs.Items.{fits}
+use Rattle.dc_cli.specs.Phases.{Content, dir_places, landed_as}
+use Rattle.dc_cli.specs.Steps.{is_told}
+use Rattle.dc_cli.specs.declared.commit.StepError.{StepError}
+use Rattle.dc_cli.specs.declared.commit.StepError.TheVariants as step_error
+use Rattle.dc_cli.specs.declared.listing.Item.{Item}
+
+-- the target refused what it allowed by what it showed before
+abbrev pub is_step_changed : StepError → Bool
+is_step_changed (step_error.Fault done) = false
+is_step_changed (step_error.Changed path) = true
+is_step_changed (step_error.Memory done) = false
+
+-- an answer of the target that is neither a fault nor want of memory
+abbrev pub is_write_refusal : WriteError → Bool
+is_write_refusal write_error.Fault = false
+is_write_refusal write_error.Memory = false
+is_write_refusal e = true
+
+-- a refusal other than that something stands there already
+abbrev pub is_hindrance : Option TreeError → Bool
+is_hindrance None = false
+is_hindrance (Some tree_error.Exists) = false
+is_hindrance (Some e) = true
+
+-- a directory stands there or can be made there
+pub record CanMakeAt (t : Tree) (place : Names) : Type 0 where
+  pub within : fits place ≡ true
+  pub free : is_hindrance (refused_dir t place) ≡ false
+
+-- each of the directories can be made where those before it are made
+abbrev pub CanMake : Tree → List Names → Type 0
+CanMake t [] = ⊤
+CanMake t (place ∷ places) = CanMakeAt t place × CanMake (updated t place made) places
+
+-- the directories on the way to the target, the target itself, and the listed directories can be made
+abbrev pub CanMakeAll : Tree → Names → List Item → Type 0
+CanMakeAll t target items = CanMake t (dir_places target items)
+
+-- a file whose bytes are told can land there
+pub record CanLandAt (t : Tree) (target : Names) (file : Content) : Type 0 where
+  pub told : is_told file ≡ true
+  pub within : fits (target ++ file.0) ≡ true
+  pub free : refused_put t (target ++ file.0) ≡ None
+
+-- each of the files can land where those before it have landed
+abbrev pub CanLandAll : Tree → Names → List Content → Type 0
+CanLandAll t target [] = ⊤
+CanLandAll t target (file ∷ files) = CanLandAt t target file × CanLandAll (updated t (target ++ file.0) (landed_as file.1)) target files
