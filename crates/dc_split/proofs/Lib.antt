@@ -1,0 +1,5 @@
+-- The modules of the proofs.
+pub mod Counting
+pub mod Filling
+pub mod Dealing
+pub mod LawProofs
