@@ -1,5 +1,5 @@
 -- Changes of trees, as stores make them, and the bytes of temporaries.
-use Rattle.std.proofs.Common.{◌≡◌, ℕ, Bool, true, false, cond, List, [], ◌∷◌, ◌++◌, Option, Some, None, refl, sym, ap, subst, append_assoc}
+use Rattle.std.proofs.Common.{◌≡◌, ℕ, Bool, true, false, cond, List, [], ◌∷◌, ◌++◌, Option, Some, None, Result, Ok, Err, OnOk, refl, sym, ◌∙◌, ap, subst, append_assoc}
 use Rattle.std.specs.Option.{option_map}
 use Rattle.std.proofs.Math.Path.{fun_ext}
 use Rattle.std.proofs.lemmas.List.{append-nil}
@@ -7,7 +7,7 @@ use Rattle.dc_path.specs.Paths.{Names, same_path}
 use Rattle.dc_path.proofs.PathLemmas.{same_path-true}
 use Rattle.dc_attrs.specs.Attributes.{default_dir}
 use Rattle.dc_attrs.specs.Trees.{Node, Dir, Tree, with_node, updated, made}
-use Rattle.dc_attrs.specs.Refusals.{refused_dir, refused_new}
+use Rattle.dc_attrs.specs.Refusals.{Refuses, refused_dir, refused_new}
 use Rattle.dc_attrs.specs.declared.refusals.TreeError.{TreeError}
 use Rattle.dc_fs.specs.Temporaries.{all_told}
 
@@ -22,6 +22,10 @@ made_at t p q false h e = refl
 
 pub with_dir : (t : Tree) (p : Names) → refused_dir t p ≡ None → with_node t p (Dir default_dir) ≡ updated t p made
 with_dir t p h = fun_ext (λ q. made_at t p q (same_path p q) (nothing_there (t p) _ h) refl)
+
+pub with_dir_ok : {X : Type 0} (t new : Tree) (p : Names) (r : Result X TreeError) → OnOk r (new ≡ with_node t p (Dir default_dir)) → Refuses (refused_dir t p) r → OnOk r (new ≡ updated t p made)
+with_dir_ok t new p (Ok x) h e = h ∙ with_dir t p e
+with_dir_ok t new p (Err x) h e = h
 
 -- ---- bytes one after the other
 told_before : (front y b : List ℕ) (o o' : Option (List ℕ)) → option_map (λ more. front ++ more) o ≡ Some b → ((c : List ℕ) → o ≡ Some c → o' ≡ Some (c ++ y)) → option_map (λ more. front ++ more) o' ≡ Some (b ++ y)

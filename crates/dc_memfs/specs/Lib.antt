@@ -1,2 +1,4 @@
+pub mod Failing
 pub mod Kept
 pub mod Sinks
+pub mod States

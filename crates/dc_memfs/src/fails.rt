@@ -7,7 +7,7 @@ use dc_path::{List, OutOfMemory};
 use std::alloc::Global;
 use std::marker::Model;
 
-/// A kind of call.
+/// A kind of call. `Target::rejoin_desk` has none: it cannot fail, and is not counted.
 #[derive(Clone, Copy, Debug, PartialEq, Eq)]
 pub enum Which {
     /// Each call, whatever its kind.
@@ -46,20 +46,21 @@ pub enum Which {
     Seal,
 }
 
-/// A call that is to fail: the `nth` of its kind on one object.
+/// A call that is to fail: the `nth` of its kind on one object. It fails before its refusals are looked at.
 #[derive(Clone, Copy, Debug, PartialEq, Eq)]
 pub struct Fail {
     /// The kind of the call.
     pub which: Which,
-    /// Which call of that kind, counted from 1.
+    /// Which call of that kind, counted from 1; 0 names none.
     pub nth: u64,
-    /// Whether a call that changes the tree makes its change before it fails.
+    /// Whether it makes its change before it fails, where the tree allows it: so do `Target::make_dir`, a removal, a move
+    /// and a setting of attributes. Every other call fails without a change.
     pub done: bool,
     /// Whether every later call on the object fails too, without its change.
     pub then_all: bool,
 }
 
-/// The calls on one object that are to fail, seen as their list.
+/// The calls on one object that are to fail, seen as their list. The first entry that names a call decides on it.
 #[derive(Drop)]
 pub struct Fails {
     list: List<Fail>,
@@ -75,6 +76,13 @@ impl Model for Fails {
 }
 
 impl Fails {
+    /// The calls that the entries of a list name fail. It takes no memory.
+    pub fn new(_alloc: Global, list: List<Fail>) -> Fails
+        ensures { result ≡ list }
+    {
+        Fails { list }
+    }
+
     /// No call fails. It takes no memory.
     pub fn none(alloc: Global) -> Fails
         ensures { result ≡ [] }
@@ -82,6 +90,13 @@ impl Fails {
         Fails {
             list: List::new(alloc),
         }
+    }
+
+    // The entries, in order.
+    pub(crate) fn as_slice(&self) -> &[Fail]
+        ensures { result.now ≡ self.now }
+    {
+        self.list.as_slice()
     }
 
     // The same calls.

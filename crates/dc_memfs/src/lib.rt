@@ -1,6 +1,7 @@
 //! Stores, desks and sinks in memory, which tell all that they hold.
 #![tactic(auto)]
 
+mod calls;
 mod desk;
 mod fails;
 mod looks;
