@@ -1,0 +1,13 @@
+-- What is known of the loop over the digits.
+use Rattle.std.proofs.Common.{◌≡◌, true, take}
+use Rattle.std.specs.Char.{is_ascii_digit}
+use Rattle.std.specs.List.{list_all}
+use Rattle.std.specs.Str.Parse.{digits_value}
+use Rattle.dc_kills.proofs.entries.read_number.Given as goal
+
+-- the digits so far write the number
+abbrev pub invariant-loop-digit : goal.invariant-loop-digit
+invariant-loop-digit l = record {
+  digits : list_all is_ascii_digit (take l.digit-index l.digits) ≡ true;
+  value : l.number ≡ digits_value 10 (take l.digit-index l.digits);
+}

@@ -1,0 +1,11 @@
+-- The first part ends at the first blank, or with the line.
+use Rattle.std.proofs.Common.{◌∙◌, sym}
+use Rattle.std.proofs.lemmas.List.{take_rest}
+use Rattle.dc_kills.proofs.LineLemmas.{part_upto, part_whole}
+use Rattle.dc_kills.proofs.lines.first_part.Goals as goal
+
+pub returns-in-Some : goal.returns-in-Some
+returns-in-Some c = rw take_rest (part_upto c.args.line.now c.in-Some.at (sym c.blank.ensures ∙ c.in-Some.is))
+
+pub returns-in-None : goal.returns-in-None
+returns-in-None c = part_whole c.args.line.now (sym c.blank.ensures ∙ c.in-None.is)
