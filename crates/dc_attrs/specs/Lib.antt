@@ -2,3 +2,4 @@ pub mod Attributes
 pub mod Limits
 pub mod Trees
 pub mod Refusals
+pub mod Keeping

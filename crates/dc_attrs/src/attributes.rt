@@ -1,10 +1,12 @@
 //! Attributes, with their limits.
 #![tactic(auto)]
 
-ghost use Rattle.std.specs.Prelude.{◌≡◌, ◌≤◌, List as Items, length, IfOk, Ok, Err, not, take, map};
+ghost use Rattle.std.specs.Prelude.{◌≡◌, ◌≤◌, List as Items, length, IfOk, Ok, Err, not, take, map, cond};
 ghost use Rattle.dc_attrs.specs.Limits.{bad_field, checked, is_xattr, rises, are_xattrs, name_of};
 ghost use Rattle.dc_attrs.specs.Attributes.{Attributes, default_file, default_dir, fits_file, fits_dir};
+ghost use Rattle.dc_attrs.specs.Keeping.{overlay, keeps};
 
+use crate::Keep;
 use dc_path::{List, OutOfMemory, Text};
 use std::alloc::Global;
 use std::marker::Model;
@@ -214,4 +216,38 @@ fn copy_xattrs(alloc: Global, xattrs: &[Xattr]) -> Result<List<Xattr>, OutOfMemo
         copies.push(copy).map_err(|_| OutOfMemory)?;
     }
     Ok(copies)
+}
+
+// The attributes that give the field of a letter: `source` where it is kept, and else `onto`.
+#[tactic(auto, unfolding(crate::specs::Keeping::keeps))]
+fn giver<'a>(keep: &Keep, letter: char, source: &'a Attrs, onto: &'a Attrs) -> &'a Attrs
+    ensures { result.now ≡ cond (keeps keep.now letter) source.now onto.now }
+{
+    if keep.has(letter) { source } else { onto }
+}
+
+/// The attributes `onto` with the values of `source` at the kept letters. `OutOfMemory` is the one error.
+#[tactic(auto, unfolding(crate::specs::Keeping::overlay, crate::specs::Keeping::keeps))]
+pub fn overlay(
+    alloc: Global,
+    keep: &Keep,
+    source: &Attrs,
+    onto: &Attrs,
+) -> Result<Attrs, OutOfMemory>
+    ensures { IfOk result (λ a. a ≡ overlay keep.now source.now onto.now) }
+{
+    let user = Text::read(alloc, giver(keep, 'u', source, onto).user.as_str())?;
+    let group = Text::read(alloc, giver(keep, 'g', source, onto).group.as_str())?;
+    let acl = Text::read(alloc, giver(keep, 'a', source, onto).acl.as_str())?;
+    let xattrs = copy_xattrs(alloc, giver(keep, 'x', source, onto).xattrs.as_slice())?;
+    Ok(Attrs {
+        replication: giver(keep, 'r', source, onto).replication,
+        block_size: giver(keep, 'b', source, onto).block_size,
+        user,
+        group,
+        mode: giver(keep, 'p', source, onto).mode,
+        acl,
+        xattrs,
+        mtime: giver(keep, 't', source, onto).mtime,
+    })
 }

@@ -1,10 +1,16 @@
-//! Attributes of files and directories, what a look at a path shows, and the definitions of trees.
+//! Attributes of files and directories, which of them a copy keeps, what a look at a path shows, and the
+//! definitions of trees.
 #![tactic(auto)]
 
 mod attributes;
+mod keeping;
 mod refusals;
 mod shown;
 
-pub use attributes::{Attrs, AttrsError, Field, Xattr};
+pub use attributes::{Attrs, AttrsError, Field, Xattr, overlay};
+pub use keeping::{Keep, KeepError};
 pub use refusals::TreeError;
 pub use shown::Seen;
+
+#[cfg(test)]
+mod tests;
