@@ -1,0 +1,5 @@
+-- The modules of the lemmas.
+pub mod PatternLemmas
+pub mod LineLemmas
+pub mod FilterLemmas
+pub mod LawProofs
