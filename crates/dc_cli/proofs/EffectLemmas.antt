@@ -68,7 +68,7 @@ both_ways true b h k = sym (h refl)
 both_ways false true h k = k refl
 both_ways false false h k = refl
 
-same_path-sym : (p q : Names) → same_path p q ≡ same_path q p
+pub same_path-sym : (p q : Names) → same_path p q ≡ same_path q p
 same_path-sym p q = both_ways (same_path p q) (same_path q p) (λ e. (path_decides q p).1 (sym (same_path-true p q e))) (λ e. (path_decides p q).1 (sym (same_path-true q p e)))
 
 or_some : {A : Type 0} (x : A) (o : Option A) (a b c : Bool) → a ≡ b → c ≡ is_some o → (a || c) ≡ is_some (cond b (Some x) o)

@@ -16,3 +16,5 @@ pub mod CauseLemmas
 pub mod VerdictLemmas
 pub mod DrillLemmas
 pub mod DenialLemmas
+pub mod StopLemmas
+pub mod PartlyLemmas

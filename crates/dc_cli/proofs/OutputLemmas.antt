@@ -10,7 +10,6 @@ use Rattle.dc_path.specs.Paths.{Names, joined, text_of}
 use Rattle.std.proofs.lemmas.Int.Digits.{digits_of_step}
 use Rattle.std.proofs.lemmas.List.{take-append-le, map-append}
 use Rattle.std.proofs.lemmas.Result.{on_ok_weaker, on_err_weaker}
-use Rattle.dc_fs.specs.Causes.{HasCause}
 use Rattle.dc_fs.specs.Temporaries.{WriteStops}
 use Rattle.dc_cli.specs.Numbers.{decimal_of, digit_of}
 use Rattle.dc_cli.specs.Output.{counter_lines, line}
@@ -69,10 +68,6 @@ module _ {E : Type 0} (r : Result (Unit {0}) E) (a b : List ℕ) where
 
   pub taken_second : (old mid new : Option (List ℕ)) → mid ≡ option_map (λ w. w ++ a) old → OnOk r (new ≡ option_map (λ w. w ++ b) mid) → OnOk r (new ≡ option_map (λ w. w ++ (a ++ b)) old)
   taken_second old mid new taken h = on_ok_weaker r (λ e. e ∙ ap (option_map (λ w. w ++ b)) taken ∙ takes_both a b old) h
-
--- a cause that shows after a count that has not fallen
-pub cause_after : {T E : Type 0} (a b c : ℕ) (r : Result T E) (e : E) → a ≤ b → HasCause b c r e → HasCause a c r e
-cause_after a b c r e le h = record { later = omega (arith, h.later); rose = λ is. omega (arith, h.rose is) }
 
 -- a line of four texts
 pub line_in_row : (a b c d : List ℕ) → line (a ++ b ++ c ++ d) ≡ a ++ (b ++ (c ++ (d ++ 10 ∷ [])))

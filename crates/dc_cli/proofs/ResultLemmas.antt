@@ -121,7 +121,7 @@ folders_off d [] q e = refl
 folders_off d (x ∷ items) q e = ap (λ b. b || has_path (map (place_of d) items) q) (same_path-not_below d (rel_of x) q e) ∙ folders_off d items q e
 
 -- ---- the files that have landed, at one path
-abbrev landed_from : Tree → Names → Option Item → Option Node → Option Node
+abbrev pub landed_from : Tree → Names → Option Item → Option Node → Option Node
 landed_from s root None old = old
 landed_from s root (Some item) old = landed_as (told_if true (take item.length (file_bytes (s (root ++ rel_of item))))) old
 
@@ -130,7 +130,7 @@ once_landed : (s : Tree) (root : Names) (x : Item) (items : List Item) (r : Name
 once_landed s root x items r old true once = ap (λ o. landed_from s root o (landed_from s root (Some x) old)) (once refl)
 once_landed s root x items r old false once = refl
 
-landed_below : (s : Tree) (root d : Names) (items : List Item) (t : Tree) (q r : Names) → is_ascending (map rel_of items) ≡ true → cut d q ≡ Some r →
+pub landed_below : (s : Tree) (root d : Names) (items : List Item) (t : Tree) (q r : Names) → is_ascending (map rel_of items) ≡ true → cut d q ≡ Some r →
     all_landed d (map (content_of true s root) items) t q ≡ landed_from s root (found rel_of items r) (t q)
 landed_below s root d [] t q r a e = refl
 landed_below s root d (x ∷ items) t q r a e =
@@ -138,7 +138,7 @@ landed_below s root d (x ∷ items) t q r a e =
     ∙ ap (λ b. landed_from s root (found rel_of items r) (cond b (landed_from s root (Some x) (t q)) (t q))) (same_path-cut d (rel_of x) q r e)
     ∙ once_landed s root x items r (t q) (same_path (rel_of x) r) (λ b. found-once rel_of x items r a b)
 
-landed_off : (s : Tree) (root d : Names) (items : List Item) (t : Tree) (q : Names) → cut d q ≡ None → all_landed d (map (content_of true s root) items) t q ≡ t q
+pub landed_off : (s : Tree) (root d : Names) (items : List Item) (t : Tree) (q : Names) → cut d q ≡ None → all_landed d (map (content_of true s root) items) t q ≡ t q
 landed_off s root d [] t q e = refl
 landed_off s root d (x ∷ items) t q e =
     landed_off s root d items (updated t (d ++ rel_of x) (landed_as (content_of true s root x).1)) q e
@@ -153,7 +153,7 @@ or_false : (b : Bool) → (b || false) ≡ b
 or_false true = refl
 or_false false = refl
 
-listed_stands : (b : Bool) (o : Option Node) (n : Node) → cond b None o ≡ Some n → o ≡ Some n
+pub listed_stands : (b : Bool) (o : Option Node) (n : Node) → cond b None o ≡ Some n → o ≡ Some n
 listed_stands true o n e = absurd (cc)
 listed_stands false o n e = e
 

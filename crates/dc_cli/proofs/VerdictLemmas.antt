@@ -1,18 +1,16 @@
 -- The outcome of a run is the verdict.
-use Rattle.std.proofs.Common.{◌≡◌, ◌≢◌, inr, ℕ, List, Bool, true, false, cond, not, ◌&&◌, Option, Some, None, IfSome, Result, Ok, Err, OnOk, IfErr, refl, sym, ◌∙◌}
+use Rattle.std.proofs.Common.{◌≡◌, inr, ℕ, List, Bool, true, false, cond, Option, Some, None, IfSome, Result, Ok, Err, OnOk, IfErr, refl, sym, ◌∙◌}
 use Rattle.dc_path.specs.Paths.{Names}
 use Rattle.dc_attrs.specs.Trees.{Tree, IsTree, is_hidden, seen}
 use Rattle.dc_attrs.specs.declared.shown.Seen.{Seen}
 use Rattle.dc_attrs.specs.declared.shown.Seen.TheVariants as seen_as
-use Rattle.dc_cli.specs.Checks.{checked, judged, is_committed, is_target_fault}
-use Rattle.dc_cli.specs.Listed.{listed}
-use Rattle.dc_cli.specs.Runs.{ended_as, outcome_of_words}
-use Rattle.dc_cli.specs.Verdict.{is_decided, is_refused, IsRefused, IsVerdict, AllowsRun, IsListable}
-use Rattle.dc_cli.specs.Words.{options, Asks}
+use Rattle.dc_cli.specs.Checks.{checked, judged, is_committed}
+use Rattle.dc_cli.specs.Runs.{ended_as}
+use Rattle.dc_cli.specs.Verdict.{is_decided, IsRefused, IsVerdict, AllowsRun}
+use Rattle.dc_cli.specs.Words.{Asks}
 use Rattle.dc_cli.specs.declared.outcome.BadTarget.TheVariants as bad_target
 use Rattle.dc_cli.specs.declared.outcome.Counts.{Counts}
 use Rattle.dc_cli.specs.declared.outcome.OptionError.{OptionError}
-use Rattle.dc_cli.specs.declared.outcome.OptionError.TheVariants as option_error
 use Rattle.dc_cli.specs.declared.outcome.Outcome.{Outcome}
 use Rattle.dc_cli.specs.declared.outcome.Outcome.TheVariants as outcome
 
@@ -68,41 +66,6 @@ pub run_refused : (source now : Option Tree) (words : List (List ℕ)) (root tar
 run_refused source now words root target (Ok counts) a c r = tt
 run_refused source now words root target (Err e) a c r = λ d. refused_told source now words root target e a c (r d)
 
-allowed_told : (source now : Option Tree) (words : List (List ℕ)) (root target : Names) → Asks words root target → IfSome source (λ s. IfSome now (λ t. checked root target (seen s root) (seen t target) ≡ Ok tt)) →
-    IfSome source (λ s. IsTree s → IsListable (listed s root) root target) → IfSome source (λ s. IsTree s → IfSome now (λ t. IsTree t → AllowsRun words s t))
-allowed_told None now words root target a k l = tt
-allowed_told (Some s) None words root target a k l = λ v. tt
-allowed_told (Some s) (Some t) words root target a k l = λ v w. (root, target, a, k, l v)
-
-pub run_allowed : (source now : Option Tree) (words : List (List ℕ)) (root target : Names) (ran : Result Counts Outcome) → Asks words root target →
-    OnOk ran (IfSome source (λ s. IfSome now (λ t. checked root target (seen s root) (seen t target) ≡ Ok tt))) → OnOk ran (IfSome source (λ s. IsTree s → IsListable (listed s root) root target)) →
-    OnOk ran (IfSome source (λ s. IsTree s → IfSome now (λ t. IsTree t → AllowsRun words s t)))
-run_allowed source now words root target (Err e) a k l = tt
-run_allowed source now words root target (Ok counts) a k l = allowed_told source now words root target a k l
-
--- ---- words that were refused
-pub told_both : (source now : Option Tree) (P : Tree → Tree → Type 0) → ((s t : Tree) → P s t) → IfSome source (λ s. IsTree s → IfSome now (λ t. IsTree t → P s t))
-told_both None now P h = tt
-told_both (Some s) None P h = λ v. tt
-told_both (Some s) (Some t) P h = λ v w. h s t
-
-pub words_verdict : (words : List (List ℕ)) (error : OptionError) (s t : Tree) → (error ≢ option_error.Memory → options words ≡ Err error) → is_decided (outcome_of_words error) ≡ true → IsVerdict words s t (outcome_of_words error)
-words_verdict words option_error.Memory s t h d = absurd (cc)
-words_verdict words (option_error.UnknownOption word) s t h d = h (λ e. cc)
-words_verdict words (option_error.BadPath text) s t h d = h (λ e. cc)
-words_verdict words option_error.NoPaths s t h d = h (λ e. cc)
-
--- ---- the answer of the top call
-both_true : (a b : Bool) → (a && b) ≡ true → (a ≡ true) × (b ≡ true)
-both_true true true h = (refl, refl)
-both_true true false h = absurd (cc)
-both_true false b h = absurd (cc)
-
--- what holds of a run that was refused holds of an answer that refuses
-pub ended_refused : (P : Outcome → Type 0) (ran : Result Counts Outcome) → IfErr ran (λ e. is_decided e ≡ true → P e) → is_refused (ended_as ran) ≡ true → P (ended_as ran)
-ended_refused P (Ok counts) h r = absurd (cc)
-ended_refused P (Err e) h r = h (both_true (is_decided e) (not (is_committed e)) r).0
-
 verdict_told : (source now : Option Tree) (words : List (List ℕ)) → IfSome source (λ s. IsTree s → IfSome now (λ t. IsTree t → AllowsRun words s t)) → IfSome source (λ s. IsTree s → IfSome now (λ t. IsTree t → is_decided outcome.Committed ≡ true → IsVerdict words s t outcome.Committed))
 verdict_told None now words h = tt
 verdict_told (Some s) None words h = λ v. tt
@@ -122,11 +85,3 @@ pub ended_verdict : (source now : Option Tree) (words : List (List ℕ)) (ran : 
     IfSome source (λ s. IsTree s → IfSome now (λ t. IsTree t → is_decided (ended_as ran) ≡ true → IsVerdict words s t (ended_as ran)))
 ended_verdict source now words (Ok counts) a r = verdict_told source now words a
 ended_verdict source now words (Err e) a r = decided_told source now words e (is_decided e) refl r
-
-pub ended_source : (P : Type 0) (ran : Result Counts Outcome) → IfErr ran (λ e. e ≡ outcome.SourceFault → P) → ended_as ran ≡ outcome.SourceFault → P
-ended_source P (Ok counts) h e = absurd (cc)
-ended_source P (Err x) h e = h e
-
-pub ended_target : (P : Type 0) (ran : Result Counts Outcome) → IfErr ran (λ e. is_target_fault e ≡ true → P) → is_target_fault (ended_as ran) ≡ true → P
-ended_target P (Ok counts) h e = absurd (cc)
-ended_target P (Err x) h e = h e

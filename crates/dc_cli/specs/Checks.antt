@@ -1,5 +1,5 @@
 -- What a run looks at before it changes anything, and when it is refused (the order is this project's).
-use Rattle.std.specs.Prelude.{◌≡◌, Bool, true, false, Result, Ok, Err, if◌then◌else◌}
+use Rattle.std.specs.Prelude.{◌≡◌, Bool, true, false, not, Result, Ok, Err, if◌then◌else◌}
 use Rattle.dc_path.specs.Paths.{Names}
 use Rattle.dc_attrs.specs.Trees.{is_hidden}
 use Rattle.dc_attrs.specs.declared.shown.Seen.{Seen}
@@ -9,6 +9,8 @@ use Rattle.dc_cli.specs.declared.listing.ListError.TheVariants as list_error
 use Rattle.dc_cli.specs.declared.outcome.Outcome.{Outcome}
 use Rattle.dc_cli.specs.declared.outcome.Outcome.TheVariants as outcome
 use Rattle.dc_cli.specs.declared.outcome.BadTarget.TheVariants as bad_target
+use Rattle.dc_cli.specs.declared.outcome.Phase.{Phase}
+use Rattle.dc_cli.specs.declared.outcome.Phase.TheVariants as phase_of
 use Rattle.dc_cli.specs.declared.outcome.TooManyOf.TheVariants as too_many
 
 abbrev pub is_absent : Seen → Bool
@@ -34,6 +36,29 @@ checked root target from to =
 abbrev pub is_target_fault : Outcome → Bool
 is_target_fault (outcome.TargetFault phase done) = true
 is_target_fault e = false
+
+abbrev pub is_check : Phase → Bool
+is_check phase_of.Check = true
+is_check phase = false
+
+abbrev pub is_copy : Phase → Bool
+is_copy phase_of.Copy = true
+is_copy phase = false
+
+-- the target or a desk of it failed while files were copied
+abbrev pub is_copy_fault : Outcome → Bool
+is_copy_fault (outcome.TargetFault phase done) = is_copy phase
+is_copy_fault e = false
+
+-- the target failed, and not while files were copied
+abbrev pub is_own_fault : Outcome → Bool
+is_own_fault (outcome.TargetFault phase done) = not (is_copy phase)
+is_own_fault e = false
+
+-- the target failed when there could be temporaries
+abbrev pub is_late_fault : Outcome → Bool
+is_late_fault (outcome.TargetFault phase done) = not (is_check phase)
+is_late_fault e = false
 
 abbrev pub is_committed : Outcome → Bool
 is_committed outcome.Committed = true

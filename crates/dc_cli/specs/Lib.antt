@@ -9,6 +9,7 @@ pub mod Ready
 pub mod Readable
 pub mod Steps
 pub mod Makeable
+pub mod Stops
 pub mod Numbers
 pub mod Output
 pub mod Pieces
@@ -16,5 +17,6 @@ pub mod Words
 pub mod Checks
 pub mod Runs
 pub mod Verdict
+pub mod During
 pub mod Drills
 pub mod DrillSteps

@@ -11,6 +11,7 @@ ghost use Rattle.dc_cli.specs.Items.{fits};
 ghost use Rattle.dc_cli.specs.Makeable.{is_step_changed, is_write_refusal, CanMakeAt, CanMake, CanMakeAll, CanLandAt, CanLandAll};
 ghost use Rattle.dc_cli.specs.Ready.{content_in};
 ghost use Rattle.dc_cli.specs.Steps.{is_step_fault, LandsAll, Landing};
+ghost use Rattle.dc_cli.specs.Stops.{StopsAfter, MadeUpTo, Behind, LandedUpTo};
 
 use crate::copying::Ready;
 use crate::listing::Item;
@@ -33,6 +34,7 @@ pub enum StepError {
 fn stopped(alloc: Global, error: WriteError, path: &Path, done: u64) -> StepError
     ensures fault { is_step_fault result ≡ true → error ≡ WriteError.Fault }
     ensures changed { is_step_changed result ≡ true → is_write_refusal error ≡ true }
+    ensures done { StopsAfter (λ k. k ≡ done) result }
 {
     match error {
         WriteError::Fault => StepError::Fault { done },
@@ -74,6 +76,7 @@ fn make_place<T: Target>(alloc: Global, target: &mut T, place: &Path) -> Result<
 // Makes the directories on the way to a path, and the one at it.
 fn make_way<T: Target>(alloc: Global, target: &mut T, place: &Path) -> Result<(), StepError>
     ensures ok { OnOk result (T.tree target.new ≡ option_map (all_made (ways place.now)) (T.tree target.old)) }
+    ensures stops { IfErr result (StopsAfter (MadeUpTo (ways place.now) (T.tree target.old) (T.tree target.new))) }
     ensures changed { IfErr result (λ e. is_step_changed e ≡ true → IfSome (T.tree target.old) (λ t. CanMake t (ways place.now) → ⊥)) }
     ensures rest { T.rest target.new ≡ T.rest target.old }
     ensures later { T.faults target.old ≤ T.faults target.new }
@@ -137,6 +140,7 @@ fn make_items<T: Target>(
 ) -> Result<(), StepError>
     requires { first + length items.now < 2 ^ 64 }
     ensures ok { OnOk result (T.tree target.new ≡ option_map (all_made (folder_places base.now items.now)) (T.tree target.old)) }
+    ensures stops { IfErr result (StopsAfter (Behind first (MadeUpTo (folder_places base.now items.now) (T.tree target.old) (T.tree target.new)))) }
     ensures changed { IfErr result (λ e. is_step_changed e ≡ true → IfSome (T.tree target.old) (λ t. CanMake t (folder_places base.now items.now) → ⊥)) }
     ensures rest { T.rest target.new ≡ T.rest target.old }
     ensures later { T.faults target.old ≤ T.faults target.new }
@@ -164,6 +168,7 @@ pub fn make_dirs<T: Target>(
 ) -> Result<(), StepError>
     requires { length items.now ≤ 1048576 }
     ensures ok { OnOk result (T.tree target.new ≡ option_map (all_made (dir_places place.now items.now)) (T.tree target.old)) }
+    ensures stops { IfErr result (StopsAfter (MadeUpTo (dir_places place.now items.now) (T.tree target.old) (T.tree target.new))) }
     ensures changed { IfErr result (λ e. is_step_changed e ≡ true → IfSome (T.tree target.old) (λ t. CanMakeAll t place.now items.now → ⊥)) }
     ensures rest { T.rest target.new ≡ T.rest target.old }
     ensures later { T.faults target.old ≤ T.faults target.new }
@@ -185,6 +190,7 @@ fn land_one<T: Target>(
     ensures ok { OnOk result (Landing base.now (content_in T.Desk.Temp.content file) (T.tree target.old) (T.tree target.new) (T.rest target.old) (T.rest target.new)) }
     ensures changed { IfErr result (λ e. is_write_refusal e ≡ true → IfSome (T.tree target.old) (λ t. CanLandAt t base.now (content_in T.Desk.Temp.content file) → ⊥)) }
     ensures kept { OnErr result (T.rest target.new ≡ T.rest target.old) }
+    ensures kept_tree { OnErr result (T.tree target.new ≡ T.tree target.old) }
     ensures cause { HasCause (T.faults target.old) (T.faults target.new) result WriteError.Fault }
 {
     let Ready { rel, part } = file;
@@ -207,6 +213,7 @@ pub fn land_all<T: Target>(
     requires few { length files.items < 2 ^ 64 }
     requires counted { length files.items ≤ (T.rest target.old).scratch }
     ensures ok { OnOk result (LandsAll base.now (map (content_in T.Desk.Temp.content) files.items) (T.tree target.old) (T.tree target.new) (T.rest target.old) (T.rest target.new)) }
+    ensures stops { IfErr result (StopsAfter (LandedUpTo base.now (map (content_in T.Desk.Temp.content) files.items) (T.tree target.old) (T.tree target.new) (T.rest target.old) (T.rest target.new))) }
     ensures changed { IfErr result (λ e. is_step_changed e ≡ true → IfSome (T.tree target.old) (λ t. CanLandAll t base.now (map (content_in T.Desk.Temp.content) files.items) → ⊥)) }
     ensures later { T.faults target.old ≤ T.faults target.new }
     ensures cause { IfErr result (λ e. is_step_fault e ≡ true → Rose (T.faults target.old) (T.faults target.new)) }

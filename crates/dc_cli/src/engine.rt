@@ -1,12 +1,12 @@
 //! A run: what is copied from the source directory to the target, and what the target is left as.
 #![tactic(auto)]
 
-ghost use Rattle.std.specs.Prelude.{◌≡◌, ◌≤◌, ◌⊎◌, true, false, map, filter, length, Ok, IfOk, IfErr, IfSome, OnOk};
+ghost use Rattle.std.specs.Prelude.{◌≡◌, ◌≤◌, ◌⊎◌, true, false, map, filter, length, Ok, IfOk, IfErr, IfSome, OnOk, OnErr};
 ghost use Rattle.std.specs.List.{sum_by};
 ghost use Rattle.std.specs.Option.{is_some};
 ghost use Rattle.dc_attrs.specs.Trees.{IsTree, seen};
 ghost use Rattle.dc_fs.specs.Causes.{Rose};
-ghost use Rattle.dc_cli.specs.Checks.{checked, is_committed, is_target_fault};
+ghost use Rattle.dc_cli.specs.Checks.{checked, is_committed, is_target_fault, is_copy_fault, is_own_fault, is_late_fault};
 ghost use Rattle.dc_cli.specs.Verdict.{is_decided, is_denied, IsRefused, IsListable};
 ghost use Rattle.dc_cli.specs.Effects.{GainsEffects, AreCounts};
 ghost use Rattle.dc_cli.specs.Listed.{listed};
@@ -15,6 +15,8 @@ ghost use Rattle.dc_cli.specs.Makeable.{CanMakeAll, CanLandAll};
 ghost use Rattle.dc_cli.specs.Readable.{AllReadable};
 ghost use Rattle.dc_cli.specs.Ready.{content_in};
 ghost use Rattle.dc_cli.specs.Result.{IsResult};
+ghost use Rattle.dc_cli.specs.During.{During, EndsIn};
+ghost use Rattle.dc_cli.specs.Stops.{CommitStops, NotBegun, IsCleared};
 ghost use Rattle.dc_cli.specs.Runs.{outcome_of_copy, outcome_of_opening, outcome_of_step, Finishes};
 
 use crate::commit::{StepError, land_all, make_dirs};
@@ -79,6 +81,7 @@ fn open_desk<T: Target>(alloc: Global, target: &mut T) -> Result<T::Desk, Outcom
     ensures stops { IfErr result (λ e. is_decided e ≡ false) }
     ensures never_denied { IfErr result (λ e. is_denied e ≡ false) }
     ensures no_source { IfErr result (λ e. e ≡ Outcome.SourceFault → ⊥) }
+    ensures phase { IfErr result (EndsIn (NotBegun Phase.Copy)) }
     ensures tells { IfOk result (λ desk. T.Desk.tells desk ≡ is_some (T.tree target.old)) }
     ensures made { IfOk result (λ desk. T.Desk.made desk ≡ 0) }
     ensures faults { IfOk result (λ desk. T.Desk.faults desk ≡ 0) }
@@ -106,6 +109,7 @@ fn settle<S: Store, T: Target>(
     ensures counted { IfOk result (λ files. length files.items ≤ (T.rest target.new).scratch) }
     ensures copied { IfOk result (λ files. IfSome (S.tree source.old) (λ s. map (content_in T.Desk.Temp.content) files.items ≡ contents_of (is_some (T.tree target.old)) s root.now items.now)) }
     ensures never_denied { IfErr result (λ e. is_denied e ≡ true → IfSome (S.tree source.old) (λ s. AllReadable s root.now items.now → ⊥)) }
+    ensures phase { IfErr result (EndsIn (NotBegun Phase.Copy)) }
     ensures stops { IfErr result (λ e. is_decided e ≡ false) }
     ensures later { S.faults source.old ≤ S.faults source.new }
     ensures cause { IfErr result (λ e. e ≡ Outcome.SourceFault → Rose (S.faults source.old) (S.faults source.new)) }
@@ -139,6 +143,7 @@ fn finish<T: Target>(
     ensures finished { OnOk result (Finishes place.now items.now (map (content_in T.Desk.Temp.content) files.items) (T.tree target.old) (T.tree target.new) (T.rest target.old) (T.rest target.new)) }
     ensures never_denied { IfErr result (λ e. is_denied e ≡ true → IfSome (T.tree target.old) (λ t. CanMakeAll t place.now items.now → CanLandAll (all_made (dir_places place.now items.now) t) place.now (map (content_in T.Desk.Temp.content) files.items) → ⊥)) }
     ensures stops { IfErr result (λ e. is_decided e ≡ false) }
+    ensures ends { IfErr result (EndsIn (CommitStops place.now items.now (map (content_in T.Desk.Temp.content) files.items) (T.tree target.old) (T.tree target.new) (T.rest target.old) (T.rest target.new))) }
     ensures no_source { IfErr result (λ e. e ≡ Outcome.SourceFault → ⊥) }
     ensures later { T.faults target.old ≤ T.faults target.new }
     ensures cause { IfErr result (λ e. is_target_fault e ≡ true → Rose (T.faults target.old) (T.faults target.new)) }
@@ -207,6 +212,9 @@ fn count_items(items: &[Item]) -> Counts
 // Removes what is left of temporaries after a refusal, which stays the answer.
 fn give_up<T: Target>(target: &mut T, outcome: Outcome) -> Outcome
     ensures outcome { result ≡ outcome }
+    ensures tree { T.tree target.new ≡ T.tree target.old }
+    ensures landed { (T.rest target.new).landed ≡ (T.rest target.old).landed }
+    ensures cleared { IsCleared (T.rest target.new).scratch (T.faults target.old) (T.faults target.new) }
     ensures later { T.faults target.old ≤ T.faults target.new }
     ensures desks { (T.rest target.new).desk_faults ≡ (T.rest target.old).desk_faults }
 {
@@ -216,7 +224,8 @@ fn give_up<T: Target>(target: &mut T, outcome: Outcome) -> Outcome
 
 /// Copies what stands under the source directory to the target's path, and answers the counters.
 ///
-/// What an outcome that does not commit leaves: before the target is changed, its tree; after that temporaries are swept.
+/// What an outcome that does not commit leaves: before directories are made, the target's tree; after that the tree that
+/// its phase has reached. Temporaries that the run made are swept, unless the target fails at that too.
 pub fn run<S: Store, T: Target>(
     alloc: Global,
     source: &mut S,
@@ -234,7 +243,13 @@ pub fn run<S: Store, T: Target>(
     ensures later { S.faults source.old ≤ S.faults source.new }
     ensures cause { IfErr result (λ e. e ≡ Outcome.SourceFault → Rose (S.faults source.old) (S.faults source.new)) }
     ensures target_later { T.faults target.old ≤ T.faults target.new }
-    ensures target_cause { IfErr result (λ e. is_target_fault e ≡ true → Rose (T.faults target.old) (T.faults target.new) ⊎ Rose (T.rest target.old).desk_faults (T.rest target.new).desk_faults) }
+    ensures target_cause { IfErr result (λ e. is_own_fault e ≡ true → Rose (T.faults target.old) (T.faults target.new)) }
+    ensures copy_cause { IfErr result (λ e. is_copy_fault e ≡ true → Rose (T.faults target.old) (T.faults target.new) ⊎ Rose (T.rest target.old).desk_faults (T.rest target.new).desk_faults) }
+    ensures early { IfErr result (λ e. e ≡ Outcome.SourceFault → T.tree target.new ≡ T.tree target.old) }
+    ensures early_landed { IfErr result (λ e. e ≡ Outcome.SourceFault → (T.rest target.new).landed ≡ (T.rest target.old).landed) }
+    ensures ends { IfErr result (λ e. IfSome (S.tree source.old) (λ s. IsTree s → IfSome (T.tree target.old) (λ t. IsTree t → EndsIn (During (listed s root.now) t place.now (T.tree target.new) (T.rest target.old).landed (T.rest target.new).landed) e))) }
+    ensures cleared { IfErr result (λ e. is_late_fault e ≡ true → IsCleared (T.rest target.new).scratch (T.faults target.old) (T.faults target.new)) }
+    ensures left { OnErr result ((T.rest target.new ≡ T.rest target.old) ⊎ IsCleared (T.rest target.new).scratch (T.faults target.old) (T.faults target.new)) }
     ensures swept { OnOk result ((T.rest target.new).scratch ≡ 0) }
     ensures result { OnOk result (IfSome (S.tree source.old) (λ s. IsTree s → IfSome (T.tree target.old) (λ t. IsTree t → IsResult (listed s root.now) t place.now (T.tree target.new)))) }
     ensures landed { OnOk result (IfSome (S.tree source.old) (λ s. IsTree s → IfSome (T.tree target.old) (λ t. IsTree t → GainsEffects (listed s root.now) place.now (T.rest target.old).landed (T.rest target.new).landed))) }

@@ -11,6 +11,8 @@ ghost use Rattle.dc_fs.specs.Causes.{Rose, HasCause};
 ghost use Rattle.dc_cli.specs.Items.{rel_of, fits_under, AreItems};
 ghost use Rattle.dc_cli.specs.Listed.{listed};
 ghost use Rattle.dc_cli.specs.Verdict.{is_decided, is_denied, IsRefused};
+ghost use Rattle.dc_cli.specs.During.{EndsIn};
+ghost use Rattle.dc_cli.specs.Stops.{NotBegun};
 ghost use Rattle.dc_cli.specs.Checks.{judged, checked, Checks, is_absent, is_target_fault, is_committed, outcome_of_listing};
 
 use crate::listing::{Item, ListError, list_tree};
@@ -59,6 +61,7 @@ fn look_at_target<T: Store>(target: &mut T, place: &Path) -> Result<Seen, Outcom
     ensures rest { T.rest target.new ≡ T.rest target.old }
     ensures later { T.faults target.old ≤ T.faults target.new }
     ensures cause { IfErr result (λ e. (is_target_fault e ≡ true) × Rose (T.faults target.old) (T.faults target.new)) }
+    ensures phase { IfErr result (EndsIn (NotBegun Phase.Check)) }
     ensures seen { IfOk result (λ shown. IfSome (T.tree target.old) (λ t. shown ≡ seen t place.now)) }
 {
     match target.kind(place) {
@@ -111,6 +114,7 @@ fn check_paths<S: Store, T: Store>(
     ensures target_cause { IfErr result (λ e. is_target_fault e ≡ true → Rose (T.faults target.old) (T.faults target.new)) }
     ensures stops { IfErr result (λ e. is_committed e ≡ false) }
     ensures never_denied { IfErr result (λ e. is_denied e ≡ false) }
+    ensures phase { IfErr result (EndsIn (NotBegun Phase.Check)) }
     ensures place { OnOk result (IsPath place.now) }
     ensures answers { IfSome (S.tree source.old) (λ s. IfSome (T.tree target.old) (λ t. Checks (checked root.now place.now (seen s root.now) (seen t place.now)) result)) }
 {
@@ -167,6 +171,7 @@ pub fn survey<S: Store, T: Store>(
     ensures stops { IfErr result (λ e. is_committed e ≡ false) }
     ensures refused { IfErr result (λ e. is_decided e ≡ true → IfSome (S.tree source.old) (λ s. IsTree s → IfSome (T.tree target.old) (λ t. IsRefused root.now place.now s t e))) }
     ensures never_denied { IfErr result (λ e. is_denied e ≡ true → IfSome (S.tree source.old) (λ s. IsTree s → IfSome (T.tree target.old) (λ t. ⊥))) }
+    ensures phase { IfErr result (EndsIn (NotBegun Phase.Check)) }
     ensures place { OnOk result (IsPath place.now) }
     ensures ascending { IfOk result (λ items. IsTrue (is_ascending (map rel_of items))) }
     ensures few { IfOk result (λ items. length items ≤ 1048576) }

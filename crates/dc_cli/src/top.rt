@@ -1,13 +1,15 @@
 //! The top call.
 #![tactic(auto)]
 
-ghost use Rattle.std.specs.Prelude.{◌≡◌, ◌≤◌, ◌⊎◌, ℕ, ◌++◌, true, false, List, [], ◌∷◌, Ok, IfOk, IfErr, IfSome, OnOk};
+ghost use Rattle.std.specs.Prelude.{◌≡◌, ◌≤◌, ◌⊎◌, ℕ, ◌++◌, true, false, List, [], ◌∷◌, Ok, IfOk, IfErr, IfSome, OnOk, OnErr};
 ghost use Rattle.std.specs.Option.{option_map};
 ghost use Rattle.dc_path.specs.Paths.{Names};
 ghost use Rattle.dc_attrs.specs.Trees.{IsTree};
 ghost use Rattle.dc_fs.specs.Causes.{Rose};
 ghost use Rattle.dc_fs.specs.Temporaries.{WriteStops};
-ghost use Rattle.dc_cli.specs.Checks.{is_committed, is_target_fault};
+ghost use Rattle.dc_cli.specs.Checks.{is_committed, is_copy_fault, is_own_fault, is_late_fault};
+ghost use Rattle.dc_cli.specs.During.{During, EndsIn};
+ghost use Rattle.dc_cli.specs.Stops.{IsCleared};
 ghost use Rattle.dc_cli.specs.Verdict.{is_decided, is_denied, is_refused, IsVerdict, AllowsRun};
 ghost use Rattle.dc_cli.specs.Effects.{GainsEffects, AreCounts, none_counted};
 ghost use Rattle.dc_cli.specs.Listed.{listed};
@@ -44,7 +46,13 @@ fn run_words<S: Store, T: Target>(
     ensures untouched { IfErr result (λ e. is_decided e ≡ true → T.tree target.new ≡ T.tree target.old) }
     ensures unchanged { IfErr result (λ e. is_decided e ≡ true → T.rest target.new ≡ T.rest target.old) }
     ensures cause { IfErr result (λ e. e ≡ Outcome.SourceFault → Rose (S.faults source.old) (S.faults source.new)) }
-    ensures target_cause { IfErr result (λ e. is_target_fault e ≡ true → Rose (T.faults target.old) (T.faults target.new) ⊎ Rose (T.rest target.old).desk_faults (T.rest target.new).desk_faults) }
+    ensures target_cause { IfErr result (λ e. is_own_fault e ≡ true → Rose (T.faults target.old) (T.faults target.new)) }
+    ensures copy_cause { IfErr result (λ e. is_copy_fault e ≡ true → Rose (T.faults target.old) (T.faults target.new) ⊎ Rose (T.rest target.old).desk_faults (T.rest target.new).desk_faults) }
+    ensures early { IfErr result (λ e. e ≡ Outcome.SourceFault → T.tree target.new ≡ T.tree target.old) }
+    ensures early_landed { IfErr result (λ e. e ≡ Outcome.SourceFault → (T.rest target.new).landed ≡ (T.rest target.old).landed) }
+    ensures ends { IfErr result (λ e. (root place : Names) → Asks words.now root place → IfSome (S.tree source.old) (λ s. IsTree s → IfSome (T.tree target.old) (λ t. IsTree t → EndsIn (During (listed s root) t place (T.tree target.new) (T.rest target.old).landed (T.rest target.new).landed) e))) }
+    ensures cleared { IfErr result (λ e. is_late_fault e ≡ true → IsCleared (T.rest target.new).scratch (T.faults target.old) (T.faults target.new)) }
+    ensures left { OnErr result ((T.rest target.new ≡ T.rest target.old) ⊎ IsCleared (T.rest target.new).scratch (T.faults target.old) (T.faults target.new)) }
 {
     let paths = match read_options(alloc, words) {
         Ok(paths) => paths,
@@ -114,7 +122,16 @@ pub fn distcp<R: Threads + Sync, S: Source, T: Target, O: Sink>(
     ensures untouched { is_refused result.outcome ≡ true → T.tree target.new ≡ T.tree target.old }
     ensures unchanged { is_refused result.outcome ≡ true → T.rest target.new ≡ T.rest target.old }
     ensures source_fault { result.outcome ≡ Outcome.SourceFault → Rose (S.faults source.old) (S.faults source.new) }
-    ensures target_fault { is_target_fault result.outcome ≡ true → Rose (T.faults target.old) (T.faults target.new) ⊎ Rose (T.rest target.old).desk_faults (T.rest target.new).desk_faults }
+    ensures target_fault { is_own_fault result.outcome ≡ true → Rose (T.faults target.old) (T.faults target.new) }
+    ensures copy_fault { is_copy_fault result.outcome ≡ true → Rose (T.faults target.old) (T.faults target.new) ⊎ Rose (T.rest target.old).desk_faults (T.rest target.new).desk_faults }
+
+    // A run that ends early leaves the tree and the record of landings as its phase has reached them. A source fails before
+    // anything is made. Temporaries that the run made are removed, unless the target fails at that too.
+    ensures during { (root place : Names) → Asks words.now root place → IfSome (S.tree source.old) (λ s. IsTree s → IfSome (T.tree target.old) (λ t. IsTree t → EndsIn (During (listed s root) t place (T.tree target.new) (T.rest target.old).landed (T.rest target.new).landed) result.outcome)) }
+    ensures early { result.outcome ≡ Outcome.SourceFault → T.tree target.new ≡ T.tree target.old }
+    ensures early_landed { result.outcome ≡ Outcome.SourceFault → (T.rest target.new).landed ≡ (T.rest target.old).landed }
+    ensures cleared { is_late_fault result.outcome ≡ true → IsCleared (T.rest target.new).scratch (T.faults target.old) (T.faults target.new) }
+    ensures left { is_committed result.outcome ≡ false → (T.rest target.new ≡ T.rest target.old) ⊎ IsCleared (T.rest target.new).scratch (T.faults target.old) (T.faults target.new) }
 
     // A run that commits was asked for by two paths,
     ensures asked { result.outcome ≡ Outcome.Committed → (root : Names) × (place : Names) × Asks words.now root place }

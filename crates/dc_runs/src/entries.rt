@@ -8,22 +8,22 @@ use std::alloc::Global;
 
 /// What stands at a path: a directory, or a file with the bytes of this text.
 #[derive(Clone, Copy)]
-pub enum Is {
+pub(crate) enum Is {
     Dir,
     File(&'static str),
 }
 
 /// A path and what stands there. In a list each directory comes before what is under it.
-pub type Entry = (&'static str, Is);
+pub(crate) type Entry = (&'static str, Is);
 
 // The path of a text.
-pub fn path(alloc: Global, text: &str) -> Result<Path, TreeError> {
+pub(crate) fn path(alloc: Global, text: &str) -> Result<Path, TreeError> {
     Path::read(alloc, text).map_err(|_| TreeError::Memory)
 }
 
 // Makes a directory with default attributes.
 #[tactic(auto, using(dc_tree::proofs::FittingLemmas::default_dir_fits))]
-pub fn make_dir(alloc: Global, tree: &mut MemTree, text: &str) -> Result<(), TreeError> {
+pub(crate) fn make_dir(alloc: Global, tree: &mut MemTree, text: &str) -> Result<(), TreeError> {
     let path = path(alloc, text)?;
     tree.make_dir(alloc, &path, Attrs::default_dir(alloc))
 }
@@ -38,7 +38,7 @@ fn put(alloc: Global, tree: &mut MemTree, text: &str, content: &str) -> Result<(
 }
 
 // The tree of these entries under the root.
-pub fn planted(alloc: Global, entries: &[Entry]) -> Result<MemTree, TreeError> {
+pub(crate) fn planted(alloc: Global, entries: &[Entry]) -> Result<MemTree, TreeError> {
     let mut tree = MemTree::new(alloc)?;
     for (text, is) in entries {
         match is {
@@ -81,7 +81,7 @@ fn all_stand(alloc: Global, tree: &MemTree, entries: &[Entry]) -> Result<bool, T
 
 // Whether each entry stands in the tree, and nothing else but the root: the directories have as many names as there are
 // entries.
-pub fn is_planted(alloc: Global, tree: &MemTree, entries: &[Entry]) -> Result<bool, TreeError> {
+pub(crate) fn is_planted(alloc: Global, tree: &MemTree, entries: &[Entry]) -> Result<bool, TreeError> {
     let mut count = count_names(alloc, tree, "/", Is::Dir)?;
     for (text, is) in entries {
         count = count.saturating_add(count_names(alloc, tree, text, *is)?);

@@ -6,6 +6,8 @@ mod copies;
 #[cfg(test)]
 mod entries;
 #[cfg(test)]
+mod faults;
+#[cfg(test)]
 mod limits;
 #[cfg(test)]
 mod refusals;

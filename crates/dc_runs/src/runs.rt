@@ -13,7 +13,7 @@ use std::thread::Threads;
 
 /// What a run answered, and what it left.
 #[derive(Drop)]
-pub struct Ran {
+pub(crate) struct Ran {
     pub answer: Answer,
     pub target: MemTarget,
     pub sink: MemSink,
@@ -41,7 +41,7 @@ fn target_of(alloc: Global, entries: &[Entry]) -> Result<MemTarget, TreeError> {
 }
 
 // Runs what the words ask for from one list of entries to another. The sink fails from its `fail_at`-th write on.
-pub fn run<R: Threads + Sync>(
+pub(crate) fn run<R: Threads + Sync>(
     rt: &R,
     alloc: Global,
     source: &[Entry],
@@ -54,7 +54,7 @@ pub fn run<R: Threads + Sync>(
 }
 
 // The same from a tree.
-pub fn run_from<R: Threads + Sync>(
+pub(crate) fn run_from<R: Threads + Sync>(
     rt: &R,
     alloc: Global,
     tree: &MemTree,
@@ -62,13 +62,31 @@ pub fn run_from<R: Threads + Sync>(
     text: &str,
     fail_at: Option<u64>,
 ) -> Result<Ran, TreeError> {
-    let mut target = target_of(alloc, target)?;
-    let words = words(alloc, text)?;
-    let mut sink = MemSink::new(alloc, fail_at)?;
+    let target = target_of(alloc, target)?;
     let none = Fails::none(alloc);
     let mut source = MemSource::new(tree, &none, &none);
-    let words = words.as_slice();
-    let answer = distcp(rt, alloc, words, &mut source, &mut target, &mut sink);
+    run_on(rt, alloc, &mut source, target, text, fail_at)
+}
+
+// The same between two stores.
+pub(crate) fn run_on<R: Threads + Sync>(
+    rt: &R,
+    alloc: Global,
+    source: &mut MemSource,
+    mut target: MemTarget,
+    text: &str,
+    fail_at: Option<u64>,
+) -> Result<Ran, TreeError> {
+    let words = words(alloc, text)?;
+    let mut sink = MemSink::new(alloc, fail_at)?;
+    let answer = distcp(
+        rt,
+        alloc,
+        words.as_slice(),
+        source,
+        &mut target,
+        &mut sink,
+    );
     Ok(Ran {
         answer,
         target,
@@ -77,13 +95,13 @@ pub fn run_from<R: Threads + Sync>(
 }
 
 // Whether the target has these entries and no temporary.
-pub fn leaves(alloc: Global, ran: &Ran, entries: &[Entry]) -> Result<bool, TreeError> {
+pub(crate) fn leaves(alloc: Global, ran: &Ran, entries: &[Entry]) -> Result<bool, TreeError> {
     let planted = is_planted(alloc, ran.target.tree(), entries)?;
     Ok(planted && ran.target.scratch() == 0)
 }
 
 // Whether the exit status is this, and the whole output.
-pub fn ends_with(ran: &Ran, code: u8, output: &str) -> bool {
+pub(crate) fn ends_with(ran: &Ran, code: u8, output: &str) -> bool {
     status(&ran.answer) == code && ran.sink.bytes() == output.as_bytes()
 }
 
@@ -93,18 +111,17 @@ fn has_landed(alloc: Global, landed: &Landed, text: &str, bytes: u64) -> Result<
     Ok(path.as_str() == text && landed.mode == Mode::Replace && landed.bytes == bytes)
 }
 
-// Whether exactly these two landed, in this order.
-pub fn landed_two(
+// Whether exactly these files landed, in this order.
+pub(crate) fn landed_files(
     alloc: Global,
     ran: &Ran,
-    first: (&str, u64),
-    second: (&str, u64),
+    files: &[(&str, u64)],
 ) -> Result<bool, OutOfMemory> {
-    match ran.target.landed().as_slice() {
-        [one, other] => Ok(
-            has_landed(alloc, one, first.0, first.1)?
-                && has_landed(alloc, other, second.0, second.1)?,
-        ),
-        _ => Ok(false),
+    let landed = ran.target.landed().as_slice();
+    for (entry, (text, bytes)) in landed.iter().zip(files) {
+        if !has_landed(alloc, entry, text, *bytes)? {
+            return Ok(false);
+        }
     }
+    Ok(landed.len() == files.len())
 }

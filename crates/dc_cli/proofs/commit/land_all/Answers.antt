@@ -1,5 +1,5 @@
-use Rattle.std.proofs.Common.{◌≡◌, ◌∷◌, [], ◌++◌, IfSome, ap, ◌∙◌, arith, map, length-append, subst, sym, List}
-use Rattle.std.proofs.lemmas.List.{map-append}
+use Rattle.std.proofs.Common.{◌≡◌, ◌∷◌, [], ◌++◌, IfSome, ap, ◌∙◌, arith, map, length, length-append, subst, sym, List}
+use Rattle.std.proofs.lemmas.List.{map-append, length-map}
 use Rattle.std.specs.Vec.Iter.{into_iter_items, into_iter_steps}
 use Rattle.dc_cli.specs.Makeable.{CanLandAll}
 use Rattle.dc_cli.specs.Phases.{Content}
@@ -7,6 +7,8 @@ use Rattle.dc_cli.specs.Ready.{content_in}
 use Rattle.dc_cli.specs.Steps.{LandsAll}
 use Rattle.dc_cli.proofs.CommitLemmas.{lands_step}
 use Rattle.dc_cli.proofs.MakeLemmas.{land_stop, given_so_far}
+use Rattle.dc_cli.specs.Stops.{LandedUpTo}
+use Rattle.dc_cli.proofs.StopLemmas.{stops_at, lands_stop}
 use Rattle.dc_cli.proofs.commit.land_all.Goals as goal
 
 pub loop-file-preserved : goal.loop-file-preserved
@@ -32,3 +34,19 @@ returns-in-Err-clause-changed g c = λ e.
     (map (content_in g.T.Desk.Temp.Held.content) (into_iter_items c.next.new.self))
     (g.T.Store.tree c.args.target.now) (g.T.Store.tree c.loop-file.target) (g.T.Store.rest c.args.target.now) (g.T.Store.rest c.loop-file.target)
     c.loop-file.invariant.landed (c.in-Err.ensures.changed (c.stopped.ensures.changed e)))
+
+pub returns-in-Err-clause-stops : goal.returns-in-Err-clause-stops
+returns-in-Err-clause-stops g c =
+    let before = given_so_far into_iter_steps into_iter_items (λ s x t h. h.0) c.loop-file.yielded c.into_iter-file-iterator.result c.loop-file.file-iterator c.loop-file.yielded_by in
+    let all : c.args.files.items ≡ c.loop-file.yielded ++ c.in-Some.file ∷ into_iter_items c.next.new.self =
+    sym c.into_iter-file-iterator.ensures.into_iter_gives.0 ∙ before ∙ ap (λ rest. c.loop-file.yielded ++ rest) c.in-Some.ensures.steps.0 in
+    stops_at (LandedUpTo c.args.base.now (map (content_in g.T.Desk.Temp.Held.content) c.args.files.items) (g.T.Store.tree c.args.target.now) (g.T.Store.tree c.land_one.new.target) (g.T.Store.rest c.args.target.now) (g.T.Store.rest c.land_one.new.target))
+    c.loop-file.done c.stopped.result c.stopped.ensures.done
+    (subst (LandedUpTo c.args.base.now (map (content_in g.T.Desk.Temp.Held.content) c.args.files.items) (g.T.Store.tree c.args.target.now) (g.T.Store.tree c.land_one.new.target) (g.T.Store.rest c.args.target.now) (g.T.Store.rest c.land_one.new.target))
+    (length-map c.loop-file.yielded (content_in g.T.Desk.Temp.Held.content) ∙ sym c.loop-file.invariant.done)
+    (subst (λ (files : List Content). LandedUpTo c.args.base.now files (g.T.Store.tree c.args.target.now) (g.T.Store.tree c.land_one.new.target) (g.T.Store.rest c.args.target.now) (g.T.Store.rest c.land_one.new.target) (length (map (content_in g.T.Desk.Temp.Held.content) c.loop-file.yielded)))
+    (sym (ap (map (content_in g.T.Desk.Temp.Held.content)) all ∙ map-append (content_in g.T.Desk.Temp.Held.content) c.loop-file.yielded (c.in-Some.file ∷ into_iter_items c.next.new.self)))
+    (lands_stop c.args.base.now (map (content_in g.T.Desk.Temp.Held.content) c.loop-file.yielded) (content_in g.T.Desk.Temp.Held.content c.in-Some.file)
+    (map (content_in g.T.Desk.Temp.Held.content) (into_iter_items c.next.new.self))
+    (g.T.Store.tree c.args.target.now) (g.T.Store.tree c.land_one.new.target) (g.T.Store.rest c.args.target.now) (g.T.Store.rest c.land_one.new.target) (g.T.Store.rest c.loop-file.target) (g.T.Store.tree c.loop-file.target)
+    c.loop-file.invariant.landed c.in-Err.ensures.kept_tree c.in-Err.ensures.kept)))

@@ -1,4 +1,4 @@
-use Rattle.std.proofs.Common.{◌≡◌, ◌∙◌, List, map, ap, sym, subst, IfSome}
+use Rattle.std.proofs.Common.{◌≡◌, ◌∙◌, inl, refl, List, map, ap, sym, subst, IfSome}
 use Rattle.std.specs.Option.{is_some}
 use Rattle.dc_fs.specs.Rest.{Rest}
 use Rattle.dc_cli.specs.Phases.{contents_of, counts_from}
@@ -11,6 +11,11 @@ use Rattle.dc_cli.specs.Verdict.{is_denied}
 use Rattle.dc_cli.proofs.DenialLemmas.{settle_denied, finish_denied}
 use Rattle.dc_cli.specs.declared.listing.Item.{Item}
 use Rattle.dc_cli.proofs.RunLemmas.{copied_before, run_result, run_landed, run_counts, run_listable}
+use Rattle.std.proofs.lemmas.Result.{err_from_is_err_and}
+use Rattle.dc_cli.specs.During.{EndsIn}
+use Rattle.dc_cli.specs.Stops.{CommitStops}
+use Rattle.dc_cli.specs.declared.outcome.Phase.TheVariants as phase_of
+use Rattle.dc_cli.proofs.PartlyLemmas.{early_during, finish_during, swept_during}
 use Rattle.dc_cli.proofs.engine.run.Goals as goal
 
 pub returns-in-Ok-finish-clause-result : goal.returns-in-Ok-finish-clause-result
@@ -59,3 +64,23 @@ returns-clause-never_denied g c = λ h.
     (subst (λ (items : List Item). IfSome (g.S.Store.tree c.survey.new.source) (λ s. map (content_in g.T.Desk.Temp.Held.content) c.in-Ok.files.items ≡ contents_of (is_some (g.T.Store.tree c.survey.new.target)) s c.args.root.now items)) c.as_slice.ensures c.in-Ok.ensures.copied))
     (subst (λ (items : List Item). IfSome (g.T.Store.tree c.settle.new.target) (λ t. CanMakeAll t c.args.place.now items → CanLandAll (all_made (dir_places c.args.place.now items) t) c.args.place.now (map (content_in g.T.Desk.Temp.Held.content) c.in-Ok.files.items) → ⊥)) c.as_slice-2.ensures
     (c.in-Err-finish.ensures.never_denied (ap is_denied (sym c.give_up-in-Err-finish.ensures.outcome) ∙ h)))
+
+pub returns-in_err-items-clause-ends : goal.returns-in_err-items-clause-ends
+returns-in_err-items-clause-ends g c =
+    let p = err_from_is_err_and c.from_residual.result c.from_residual.ensures.1 in
+    rw (p.1, p.2) (early_during (g.S.Store.tree c.args.source.now) (g.T.Store.tree c.args.target.now) (g.T.Store.tree c.survey.new.target) c.args.root.now c.args.place.now
+    (g.T.Store.rest c.args.target.now).landed (g.T.Store.rest c.survey.new.target).landed phase_of.Check c.in_err-items.field-0.0 (inl refl)
+    c.survey.ensures.target_tree (ap (λ (r : Rest). r.landed) c.survey.ensures.target_rest) c.in_err-items.ensures.phase)
+
+pub returns-clause-ends : goal.returns-clause-ends
+returns-clause-ends g c =
+    swept_during (g.S.Store.tree c.args.source.now) (g.T.Store.tree c.args.target.now) c.args.root.now c.args.place.now (g.T.Store.tree c.finish.new.target) (g.T.Store.tree c.give_up-in-Err-finish.new.target)
+    (g.T.Store.rest c.args.target.now).landed (g.T.Store.rest c.finish.new.target).landed (g.T.Store.rest c.give_up-in-Err-finish.new.target).landed c.in-Err-finish.outcome c.give_up-in-Err-finish.result
+    c.give_up-in-Err-finish.ensures.tree c.give_up-in-Err-finish.ensures.landed c.give_up-in-Err-finish.ensures.outcome
+    (finish_during (g.S.Store.tree c.args.source.now) (g.T.Store.tree c.args.target.now) (g.T.Store.tree c.settle.new.target) (g.T.Store.tree c.finish.new.target) c.args.root.now c.args.place.now c.in_ok-items.items
+    (map (content_in g.T.Desk.Temp.Held.content) c.in-Ok.files.items) (g.T.Store.rest c.settle.new.target) (g.T.Store.rest c.finish.new.target) (g.T.Store.rest c.args.target.now).landed c.in-Err-finish.outcome
+    c.in_ok-items.ensures.ascending (c.settle.ensures.target_tree ∙ c.survey.ensures.target_tree) (c.settle.ensures.landed ∙ ap (λ (r : Rest). r.landed) c.survey.ensures.target_rest) c.in_ok-items.ensures.listed
+    (copied_before c.args.root.now c.in_ok-items.items (map (content_in g.T.Desk.Temp.Held.content) c.in-Ok.files.items)
+    (g.S.Store.tree c.args.source.now) (g.S.Store.tree c.survey.new.source) (g.T.Store.tree c.args.target.now) (g.T.Store.tree c.survey.new.target) c.survey.ensures.tree c.survey.ensures.target_tree
+    (subst (λ (items : List Item). IfSome (g.S.Store.tree c.survey.new.source) (λ s. map (content_in g.T.Desk.Temp.Held.content) c.in-Ok.files.items ≡ contents_of (is_some (g.T.Store.tree c.survey.new.target)) s c.args.root.now items)) c.as_slice.ensures c.in-Ok.ensures.copied))
+    (subst (λ (items : List Item). EndsIn (CommitStops c.args.place.now items (map (content_in g.T.Desk.Temp.Held.content) c.in-Ok.files.items) (g.T.Store.tree c.settle.new.target) (g.T.Store.tree c.finish.new.target) (g.T.Store.rest c.settle.new.target) (g.T.Store.rest c.finish.new.target)) c.in-Err-finish.outcome) c.as_slice-2.ensures c.in-Err-finish.ensures.ends))

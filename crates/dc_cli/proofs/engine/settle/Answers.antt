@@ -7,6 +7,10 @@ use Rattle.dc_cli.proofs.DenialLemmas.{copy_denied}
 use Rattle.dc_cli.proofs.CauseLemmas.{copy_source, copy_desk, desk_rose}
 use Rattle.dc_cli.specs.Phases.{contents_of}
 use Rattle.dc_cli.specs.Ready.{content_in}
+use Rattle.dc_cli.specs.During.{EndsIn}
+use Rattle.dc_cli.specs.Stops.{NotBegun}
+use Rattle.dc_cli.specs.declared.outcome.Phase.TheVariants as phase_of
+use Rattle.dc_cli.proofs.StopLemmas.{copy_ends}
 use Rattle.dc_cli.proofs.engine.settle.Goals as goal
 
 pub returns-in-Ok-copied-clause-copied : goal.returns-in-Ok-copied-clause-copied
@@ -26,3 +30,6 @@ returns-clause-target_cause g c = λ h.
 
 pub returns-clause-never_denied : goal.returns-clause-never_denied
 returns-clause-never_denied g c = λ h. c.in-Err-copied.ensures.changed (copy_denied c.in-Err-copied.error (ap is_denied (sym c.uncopied.ensures.outcome) ∙ h))
+
+pub returns-clause-phase : goal.returns-clause-phase
+returns-clause-phase g c = subst (EndsIn (NotBegun phase_of.Copy)) (sym c.uncopied.ensures.outcome) (copy_ends c.in-Err-copied.error)

@@ -9,6 +9,7 @@ use Rattle.dc_cli.specs.Words.{Asks}
 use Rattle.dc_cli.specs.declared.outcome.Outcome.{Outcome}
 use Rattle.dc_cli.proofs.RunLemmas.{ended_done}
 use Rattle.dc_cli.proofs.VerdictLemmas.{ended_verdict}
+use Rattle.dc_cli.proofs.PartlyLemmas.{EndsDuring, ended_during}
 use Rattle.dc_cli.proofs.top.distcp.Goals as goal
 
 pub returns-clause-verdict : goal.returns-clause-verdict
@@ -25,3 +26,9 @@ pub returns-clause-landed : goal.returns-clause-landed
 returns-clause-landed g c = λ ended.
     ended_done ((root place : Names) → Asks c.args.words.now root place → IfSome (g.S.Store.tree c.args.source.now) (λ s. IsTree s → IfSome (g.T.Store.tree c.args.target.now) (λ t. IsTree t → GainsEffects (listed s root) place (g.T.Store.rest c.args.target.now).landed (g.T.Store.rest c.run_words-ran.new.target).landed)))
     c.run_words-ran.result c.run_words-ran.ensures.landed c.run_words-ran.ensures.stops (sym c.unprinted-answer.ensures.outcome ∙ ended)
+
+pub returns-clause-during : goal.returns-clause-during
+returns-clause-during g c =
+    subst (λ (e : Outcome). (root place : Names) → Asks c.args.words.now root place → EndsDuring (g.S.Store.tree c.args.source.now) (g.T.Store.tree c.args.target.now) root place (g.T.Store.tree c.run_words-ran.new.target) (g.T.Store.rest c.args.target.now).landed (g.T.Store.rest c.run_words-ran.new.target).landed e)
+    (sym c.unprinted-answer.ensures.outcome)
+    (ended_during (g.S.Store.tree c.args.source.now) (g.T.Store.tree c.args.target.now) c.args.words.now (g.T.Store.tree c.run_words-ran.new.target) (g.T.Store.rest c.args.target.now).landed (g.T.Store.rest c.run_words-ran.new.target).landed c.run_words-ran.result c.run_words-ran.ensures.ends)
