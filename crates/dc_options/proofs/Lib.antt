@@ -1,0 +1,7 @@
+pub mod NumberLemmas
+pub mod WordLemmas
+pub mod LookLemmas
+pub mod WithinLemmas
+pub mod PathLemmas
+pub mod SwapLemmas
+pub mod LawProofs
