@@ -7,20 +7,25 @@ use dc_tree::MemTree;
 use std::alloc::Global;
 
 // The path of a text.
-pub fn path(alloc: Global, text: &str) -> Result<Path, TreeError> {
+pub(crate) fn path(alloc: Global, text: &str) -> Result<Path, TreeError> {
     Path::read(alloc, text).map_err(|_| TreeError::Memory)
 }
 
 // Makes a directory with default attributes.
 #[tactic(auto, using(dc_tree::proofs::FittingLemmas::default_dir_fits))]
-pub fn make_dir(alloc: Global, tree: &mut MemTree, text: &str) -> Result<(), TreeError> {
+pub(crate) fn make_dir(alloc: Global, tree: &mut MemTree, text: &str) -> Result<(), TreeError> {
     let path = path(alloc, text)?;
     tree.make_dir(alloc, &path, Attrs::default_dir(alloc))
 }
 
 // Puts a file with default attributes.
 #[tactic(auto, using(dc_tree::proofs::FittingLemmas::default_file_fits))]
-pub fn put(alloc: Global, tree: &mut MemTree, text: &str, content: &[u8]) -> Result<(), TreeError> {
+pub(crate) fn put(
+    alloc: Global,
+    tree: &mut MemTree,
+    text: &str,
+    content: &[u8],
+) -> Result<(), TreeError> {
     let path = path(alloc, text)?;
     let mut bytes = Vec::new(alloc);
     bytes.extend_from_slice(content)?;
@@ -28,7 +33,7 @@ pub fn put(alloc: Global, tree: &mut MemTree, text: &str, content: &[u8]) -> Res
 }
 
 // Whether a file of these bytes stands at a path.
-pub fn has_bytes(
+pub(crate) fn has_bytes(
     alloc: Global,
     tree: &MemTree,
     text: &str,
@@ -42,7 +47,7 @@ pub fn has_bytes(
 }
 
 // Whether two attributes are the same in each field but the extended attributes, of which they have as many.
-pub fn are_same(one: &Attrs, other: &Attrs) -> bool {
+pub(crate) fn are_same(one: &Attrs, other: &Attrs) -> bool {
     one.replication() == other.replication()
         && one.block_size() == other.block_size()
         && one.user() == other.user()
