@@ -51,7 +51,10 @@ fn a_directory_is_copied_to_an_empty_target(rt: HostRuntime) -> Result<(), Fail>
     let ran = run(&rt, alloc, &SOURCE, &[], "/s /d", None)?;
     assert_eq!(rt; leaves(alloc, &ran, &COPY), Ok(true));
     assert!(rt; ends_with(&ran, 0, LINES));
-    assert_eq!(rt; landed_files(alloc, &ran, &[("/d/a", 2), ("/d/b", 0)]), Ok(true));
+    assert_eq!(rt;
+        landed_files(alloc, &ran, &[("/d/a", 2), ("/d/b", 0)]),
+        Ok(true)
+    );
     assert_eq!(rt;
         ran.answer.counts,
         Counts {

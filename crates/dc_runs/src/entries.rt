@@ -81,7 +81,11 @@ fn all_stand(alloc: Global, tree: &MemTree, entries: &[Entry]) -> Result<bool, T
 
 // Whether each entry stands in the tree, and nothing else but the root: the directories have as many names as there are
 // entries.
-pub(crate) fn is_planted(alloc: Global, tree: &MemTree, entries: &[Entry]) -> Result<bool, TreeError> {
+pub(crate) fn is_planted(
+    alloc: Global,
+    tree: &MemTree,
+    entries: &[Entry],
+) -> Result<bool, TreeError> {
     let mut count = count_names(alloc, tree, "/", Is::Dir)?;
     for (text, is) in entries {
         count = count.saturating_add(count_names(alloc, tree, text, *is)?);

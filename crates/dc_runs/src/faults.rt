@@ -59,6 +59,7 @@ const COUNTS: Counts = Counts {
 };
 
 const IN_CHECK: End = End::TargetFault(Phase::Check, 0);
+
 const IN_COPY: End = End::TargetFault(Phase::Copy, 0);
 
 // The calls of a run that goes through.
@@ -213,9 +214,11 @@ fn came_to(alloc: Global, ran: &Ran, account: &Account) -> Result<bool, TreeErro
         && ran.target.scratch() == account.scratch;
     let standing = account.standing.min(COPY.len());
     let landed = account.landed.min(FILES.len());
-    Ok(answered
-        && is_planted(alloc, ran.target.tree(), &COPY[..standing])?
-        && landed_files(alloc, ran, &FILES[..landed])?)
+    Ok(
+        answered
+            && is_planted(alloc, ran.target.tree(), &COPY[..standing])?
+            && landed_files(alloc, ran, &FILES[..landed])?,
+    )
 }
 
 // The list of an object: the entry, or none.

@@ -79,14 +79,7 @@ pub(crate) fn run_on<R: Threads + Sync>(
 ) -> Result<Ran, TreeError> {
     let words = words(alloc, text)?;
     let mut sink = MemSink::new(alloc, fail_at)?;
-    let answer = distcp(
-        rt,
-        alloc,
-        words.as_slice(),
-        source,
-        &mut target,
-        &mut sink,
-    );
+    let answer = distcp(rt, alloc, words.as_slice(), source, &mut target, &mut sink);
     Ok(Ran {
         answer,
         target,
