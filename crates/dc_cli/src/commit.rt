@@ -81,6 +81,7 @@ fn make_way<T: Target>(alloc: Global, target: &mut T, place: &Path) -> Result<()
     ensures rest { T.rest target.new ≡ T.rest target.old }
     ensures later { T.faults target.old ≤ T.faults target.new }
     ensures cause { IfErr result (λ e. is_step_fault e ≡ true → Rose (T.faults target.old) (T.faults target.new)) }
+    ensures still { OnOk result (T.faults target.new ≡ T.faults target.old) }
 {
     let mut at = Path::root(alloc);
     for done in 0..place.len() {
@@ -145,6 +146,7 @@ fn make_items<T: Target>(
     ensures rest { T.rest target.new ≡ T.rest target.old }
     ensures later { T.faults target.old ≤ T.faults target.new }
     ensures cause { IfErr result (λ e. is_step_fault e ≡ true → Rose (T.faults target.old) (T.faults target.new)) }
+    ensures still { OnOk result (T.faults target.new ≡ T.faults target.old) }
 {
     let mut done = first;
     for item in items {
@@ -173,6 +175,7 @@ pub fn make_dirs<T: Target>(
     ensures rest { T.rest target.new ≡ T.rest target.old }
     ensures later { T.faults target.old ≤ T.faults target.new }
     ensures cause { IfErr result (λ e. is_step_fault e ≡ true → Rose (T.faults target.old) (T.faults target.new)) }
+    ensures still { OnOk result (T.faults target.new ≡ T.faults target.old) }
 {
     make_way(alloc, target, place)?;
     make_items(alloc, target, place, items, place.len() as u64)?;
@@ -191,6 +194,7 @@ fn land_one<T: Target>(
     ensures changed { IfErr result (λ e. is_write_refusal e ≡ true → IfSome (T.tree target.old) (λ t. CanLandAt t base.now (content_in T.Desk.Temp.content file) → ⊥)) }
     ensures kept { OnErr result (T.rest target.new ≡ T.rest target.old) }
     ensures kept_tree { OnErr result (T.tree target.new ≡ T.tree target.old) }
+    ensures desks { (T.rest target.new).desk_faults ≡ (T.rest target.old).desk_faults }
     ensures cause { HasCause (T.faults target.old) (T.faults target.new) result WriteError.Fault }
 {
     let Ready { rel, part } = file;
@@ -213,10 +217,12 @@ pub fn land_all<T: Target>(
     requires few { length files.items < 2 ^ 64 }
     requires counted { length files.items ≤ (T.rest target.old).scratch }
     ensures ok { OnOk result (LandsAll base.now (map (content_in T.Desk.Temp.content) files.items) (T.tree target.old) (T.tree target.new) (T.rest target.old) (T.rest target.new)) }
+    ensures desks { (T.rest target.new).desk_faults ≡ (T.rest target.old).desk_faults }
     ensures stops { IfErr result (StopsAfter (LandedUpTo base.now (map (content_in T.Desk.Temp.content) files.items) (T.tree target.old) (T.tree target.new) (T.rest target.old) (T.rest target.new))) }
     ensures changed { IfErr result (λ e. is_step_changed e ≡ true → IfSome (T.tree target.old) (λ t. CanLandAll t base.now (map (content_in T.Desk.Temp.content) files.items) → ⊥)) }
     ensures later { T.faults target.old ≤ T.faults target.new }
     ensures cause { IfErr result (λ e. is_step_fault e ≡ true → Rose (T.faults target.old) (T.faults target.new)) }
+    ensures still { OnOk result (T.faults target.new ≡ T.faults target.old) }
 {
     let mut done = 0u64;
     for file in files {

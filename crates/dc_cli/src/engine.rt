@@ -77,6 +77,7 @@ fn open_desk<T: Target>(alloc: Global, target: &mut T) -> Result<T::Desk, Outcom
     ensures tree { T.tree target.new ≡ T.tree target.old }
     ensures rest { T.rest target.new ≡ T.rest target.old }
     ensures later { T.faults target.old ≤ T.faults target.new }
+    ensures still { OnOk result (T.faults target.new ≡ T.faults target.old) }
     ensures cause { IfErr result (λ e. is_target_fault e ≡ true → Rose (T.faults target.old) (T.faults target.new)) }
     ensures stops { IfErr result (λ e. is_decided e ≡ false) }
     ensures never_denied { IfErr result (λ e. is_denied e ≡ false) }
@@ -114,6 +115,9 @@ fn settle<S: Store, T: Target>(
     ensures later { S.faults source.old ≤ S.faults source.new }
     ensures cause { IfErr result (λ e. e ≡ Outcome.SourceFault → Rose (S.faults source.old) (S.faults source.new)) }
     ensures target_later { T.faults target.old ≤ T.faults target.new }
+    ensures still { OnOk result (S.faults source.new ≡ S.faults source.old) }
+    ensures target_still { OnOk result (T.faults target.new ≡ T.faults target.old) }
+    ensures desk_still { OnOk result ((T.rest target.new).desk_faults ≤ (T.rest target.old).desk_faults) }
     ensures target_cause { IfErr result (λ e. is_target_fault e ≡ true → Rose (T.faults target.old) (T.faults target.new) ⊎ Rose (T.rest target.old).desk_faults (T.rest target.new).desk_faults) }
 {
     let mut buffer = vec![in alloc; 0u8; BUFFER_SIZE]?;
@@ -143,9 +147,11 @@ fn finish<T: Target>(
     ensures finished { OnOk result (Finishes place.now items.now (map (content_in T.Desk.Temp.content) files.items) (T.tree target.old) (T.tree target.new) (T.rest target.old) (T.rest target.new)) }
     ensures never_denied { IfErr result (λ e. is_denied e ≡ true → IfSome (T.tree target.old) (λ t. CanMakeAll t place.now items.now → CanLandAll (all_made (dir_places place.now items.now) t) place.now (map (content_in T.Desk.Temp.content) files.items) → ⊥)) }
     ensures stops { IfErr result (λ e. is_decided e ≡ false) }
+    ensures desks { OnOk result ((T.rest target.new).desk_faults ≡ (T.rest target.old).desk_faults) }
     ensures ends { IfErr result (EndsIn (CommitStops place.now items.now (map (content_in T.Desk.Temp.content) files.items) (T.tree target.old) (T.tree target.new) (T.rest target.old) (T.rest target.new))) }
     ensures no_source { IfErr result (λ e. e ≡ Outcome.SourceFault → ⊥) }
     ensures later { T.faults target.old ≤ T.faults target.new }
+    ensures still { OnOk result (T.faults target.new ≡ T.faults target.old) }
     ensures cause { IfErr result (λ e. is_target_fault e ≡ true → Rose (T.faults target.old) (T.faults target.new)) }
 {
     match make_dirs(alloc, target, place, items) {
@@ -243,6 +249,9 @@ pub fn run<S: Store, T: Target>(
     ensures later { S.faults source.old ≤ S.faults source.new }
     ensures cause { IfErr result (λ e. e ≡ Outcome.SourceFault → Rose (S.faults source.old) (S.faults source.new)) }
     ensures target_later { T.faults target.old ≤ T.faults target.new }
+    ensures still { OnOk result (S.faults source.new ≡ S.faults source.old) }
+    ensures target_still { OnOk result (T.faults target.new ≡ T.faults target.old) }
+    ensures desk_still { OnOk result ((T.rest target.new).desk_faults ≤ (T.rest target.old).desk_faults) }
     ensures target_cause { IfErr result (λ e. is_own_fault e ≡ true → Rose (T.faults target.old) (T.faults target.new)) }
     ensures copy_cause { IfErr result (λ e. is_copy_fault e ≡ true → Rose (T.faults target.old) (T.faults target.new) ⊎ Rose (T.rest target.old).desk_faults (T.rest target.new).desk_faults) }
     ensures early { IfErr result (λ e. e ≡ Outcome.SourceFault → T.tree target.new ≡ T.tree target.old) }

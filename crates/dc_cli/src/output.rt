@@ -271,6 +271,7 @@ pub fn print<O: Sink>(answer: &Answer, out: &mut O) -> bool
     ensures stopped { result ≡ false → WriteStops (lines answer.now.outcome answer.now.counts) (O.bytes out.old) (O.bytes out.new) }
     ensures later { O.faults out.old ≤ O.faults out.new }
     ensures cause { result ≡ false → Rose (O.faults out.old) (O.faults out.new) }
+    ensures still { result ≡ true → O.faults out.new ≡ O.faults out.old }
 {
     write_lines(out, &answer.outcome, &answer.counts).is_ok()
 }

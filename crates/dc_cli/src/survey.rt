@@ -60,6 +60,7 @@ fn look_at_target<T: Store>(target: &mut T, place: &Path) -> Result<Seen, Outcom
     ensures tree { T.tree target.new ≡ T.tree target.old }
     ensures rest { T.rest target.new ≡ T.rest target.old }
     ensures later { T.faults target.old ≤ T.faults target.new }
+    ensures still { OnOk result (T.faults target.new ≡ T.faults target.old) }
     ensures cause { IfErr result (λ e. (is_target_fault e ≡ true) × Rose (T.faults target.old) (T.faults target.new)) }
     ensures phase { IfErr result (EndsIn (NotBegun Phase.Check)) }
     ensures seen { IfOk result (λ shown. IfSome (T.tree target.old) (λ t. shown ≡ seen t place.now)) }
@@ -111,6 +112,7 @@ fn check_paths<S: Store, T: Store>(
     ensures target_rest { T.rest target.new ≡ T.rest target.old }
     ensures cause { HasCause (S.faults source.old) (S.faults source.new) result Outcome.SourceFault }
     ensures target_later { T.faults target.old ≤ T.faults target.new }
+    ensures target_still { OnOk result (T.faults target.new ≡ T.faults target.old) }
     ensures target_cause { IfErr result (λ e. is_target_fault e ≡ true → Rose (T.faults target.old) (T.faults target.new)) }
     ensures stops { IfErr result (λ e. is_committed e ≡ false) }
     ensures never_denied { IfErr result (λ e. is_denied e ≡ false) }
@@ -167,6 +169,7 @@ pub fn survey<S: Store, T: Store>(
     ensures target_rest { T.rest target.new ≡ T.rest target.old }
     ensures cause { HasCause (S.faults source.old) (S.faults source.new) result Outcome.SourceFault }
     ensures target_later { T.faults target.old ≤ T.faults target.new }
+    ensures target_still { OnOk result (T.faults target.new ≡ T.faults target.old) }
     ensures target_cause { IfErr result (λ e. is_target_fault e ≡ true → Rose (T.faults target.old) (T.faults target.new)) }
     ensures stops { IfErr result (λ e. is_committed e ≡ false) }
     ensures refused { IfErr result (λ e. is_decided e ≡ true → IfSome (S.tree source.old) (λ s. IsTree s → IfSome (T.tree target.old) (λ t. IsRefused root.now place.now s t e))) }

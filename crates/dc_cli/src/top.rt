@@ -48,6 +48,9 @@ fn run_words<S: Store, T: Target>(
     ensures cause { IfErr result (λ e. e ≡ Outcome.SourceFault → Rose (S.faults source.old) (S.faults source.new)) }
     ensures target_cause { IfErr result (λ e. is_own_fault e ≡ true → Rose (T.faults target.old) (T.faults target.new)) }
     ensures copy_cause { IfErr result (λ e. is_copy_fault e ≡ true → Rose (T.faults target.old) (T.faults target.new) ⊎ Rose (T.rest target.old).desk_faults (T.rest target.new).desk_faults) }
+    ensures still { OnOk result (S.faults source.new ≡ S.faults source.old) }
+    ensures target_still { OnOk result (T.faults target.new ≡ T.faults target.old) }
+    ensures desk_still { OnOk result ((T.rest target.new).desk_faults ≤ (T.rest target.old).desk_faults) }
     ensures early { IfErr result (λ e. e ≡ Outcome.SourceFault → T.tree target.new ≡ T.tree target.old) }
     ensures early_landed { IfErr result (λ e. e ≡ Outcome.SourceFault → (T.rest target.new).landed ≡ (T.rest target.old).landed) }
     ensures ends { IfErr result (λ e. (root place : Names) → Asks words.now root place → IfSome (S.tree source.old) (λ s. IsTree s → IfSome (T.tree target.old) (λ t. IsTree t → EndsIn (During (listed s root) t place (T.tree target.new) (T.rest target.old).landed (T.rest target.new).landed) e))) }
@@ -139,6 +142,10 @@ pub fn distcp<R: Threads + Sync, S: Source, T: Target, O: Sink>(
     ensures result { result.outcome ≡ Outcome.Committed → (root place : Names) → Asks words.now root place → IfSome (S.tree source.old) (λ s. IsTree s → IfSome (T.tree target.old) (λ t. IsTree t → IsResult (listed s root) t place (T.tree target.new))) }
     ensures landed { result.outcome ≡ Outcome.Committed → (root place : Names) → Asks words.now root place → IfSome (S.tree source.old) (λ s. IsTree s → IfSome (T.tree target.old) (λ t. IsTree t → GainsEffects (listed s root) place (T.rest target.old).landed (T.rest target.new).landed)) }
     ensures swept { result.outcome ≡ Outcome.Committed → (T.rest target.new).scratch ≡ 0 }
+    // It met no fault: no count of faults rose.
+    ensures source_still { result.outcome ≡ Outcome.Committed → S.faults source.new ≡ S.faults source.old }
+    ensures target_still { result.outcome ≡ Outcome.Committed → T.faults target.new ≡ T.faults target.old }
+    ensures desk_still { result.outcome ≡ Outcome.Committed → (T.rest target.new).desk_faults ≤ (T.rest target.old).desk_faults }
 
     ensures counts { result.outcome ≡ Outcome.Committed → (root place : Names) → Asks words.now root place → IfSome (S.tree source.old) (λ s. IsTree s → AreCounts (listed s root) place result.counts) }
     ensures no_counts { is_committed result.outcome ≡ false → result.counts ≡ none_counted }
@@ -148,6 +155,7 @@ pub fn distcp<R: Threads + Sync, S: Source, T: Target, O: Sink>(
     ensures stopped { result.printed ≡ false → WriteStops (lines result.outcome result.counts) (O.bytes out.old) (O.bytes out.new) }
     ensures later { O.faults out.old ≤ O.faults out.new }
     ensures cause { result.printed ≡ false → Rose (O.faults out.old) (O.faults out.new) }
+    ensures sink_still { result.printed ≡ true → O.faults out.new ≡ O.faults out.old }
 {
     let ran = run_words(alloc, words, source, target);
     let mut answer = unprinted(ran);

@@ -1,5 +1,5 @@
 -- Counts that show a cause: of 64 bits, standing still at the last value.
-use Rattle.std.specs.Prelude.{ℕ, ◌+◌, ◌-◌, ◌^◌, ◌≤◌, min, Result, IsErrOf}
+use Rattle.std.specs.Prelude.{ℕ, ◌+◌, ◌-◌, ◌^◌, ◌≤◌, min, Result, IsErrOf, OnOk, ◌≡◌}
 
 -- the sum of two counts, which stops at the last value
 abbrev pub counted : ℕ → ℕ → ℕ
@@ -18,7 +18,8 @@ pub record RisesByOne (before now : ℕ) : Type 0 where
   pub later : before ≤ now
   pub once : now ≤ before + 1
 
--- the count has not fallen, and the answer that is a fault comes only where it rose
+-- the count has not fallen, the answer that is a fault comes only where it rose, and after Ok it is as it was
 pub record HasCause {T E : Type 0} (before now : ℕ) (result : Result T E) (fault : E) : Type 0 where
   pub later : before ≤ now
   pub rose : IsErrOf result fault → Rose before now
+  pub still : OnOk result (now ≡ before)

@@ -1,7 +1,7 @@
 //! Targets in memory.
 #![tactic(auto)]
 
-ghost use Rattle.std.specs.Prelude.{◌≡◌, ◌≤◌, ◌-◌, ◌++◌, ◌∷◌, ◌↔◌, [], Some, None, length, map, take, IfOk, IfErr, IfSome, OnOk, OnErr, IsSomeAnd, IsTrue, IsErrOf};
+ghost use Rattle.std.specs.Prelude.{◌≡◌, ◌≤◌, ◌-◌, ◌++◌, ◌∷◌, ◌↔◌, [], Some, None, true, length, map, take, IfOk, IfErr, IfSome, OnOk, OnErr, IsSomeAnd, IsTrue, IsErrOf};
 ghost use Rattle.std.specs.Option.{option_map, is_some};
 ghost use Rattle.std.specs.List.{list_all};
 ghost use Rattle.std.specs.List.Sorted.{IsStrictlySortedBy};
@@ -11,7 +11,7 @@ ghost use Rattle.dc_attrs.specs.Refusals.{Refuses, refused_dir};
 ghost use Rattle.dc_attrs.specs.Trees.{updated, made, seen, bytes_of};
 ghost use Rattle.dc_tree.specs.Arena.{tree_of};
 ghost use Rattle.dc_fs.specs.Causes.{HasCause, RisesByOne};
-ghost use Rattle.dc_fs.specs.Answers.{ReadAnswers, refused_status, refused_list, refused_read, WriteAnswers, IfFault, refused_land};
+ghost use Rattle.dc_fs.specs.Answers.{is_refusal, ReadAnswers, refused_status, refused_list, refused_read, WriteAnswers, IfFault, refused_land};
 ghost use Rattle.dc_fs.specs.Looks.{IsStatusOf, fits_kind, is_shown, AreNames, IsRead};
 ghost use Rattle.dc_fs.specs.Temporaries.{all_told, landed_by};
 ghost use Rattle.dc_fs.specs.Rest.{Lands, rejoined, with_scratch};
@@ -277,6 +277,7 @@ impl Target for MemTarget {
         ensures named { FailsBy (next_fate self.old.own Which.MakeDir self.old.calls) result }
         ensures looks { RisesByOne self.old.looks self.new.looks }
         ensures cause { HasCause self.old.calls.faults self.new.calls.faults result WriteError.Fault }
+        ensures refused { IfErr result (λ e. is_refusal e ≡ true → self.new.calls.faults ≡ self.old.calls.faults) }
         ensures answers { WriteAnswers (refused_dir (tree_of self.old.tree) path.now) result }
     {
         self.looks = self.looks.saturating_add(1);

@@ -21,6 +21,8 @@ loop-file-preserved g c = record {
       (g.T.Store.rest c.args.target.now) (g.T.Store.rest c.loop-file.target) (g.T.Store.rest c.land_one.new.target)
       c.loop-file.invariant.landed c.in-Ok.ensures.ok);
   later = omega (arith, c.land_one.ensures.cause.later, c.loop-file.invariant.later);
+  still = c.in-Ok.ensures.cause.still ∙ c.loop-file.invariant.still;
+  desks = c.land_one.ensures.desks ∙ c.loop-file.invariant.desks;
 }
 
 pub returns-in-Err-clause-changed : goal.returns-in-Err-clause-changed

@@ -11,4 +11,5 @@ invariant-loop-item g l = record {
   tree : g.T.Store.tree l.target ≡ option_map (all_made (folder_places l.base (take l.item-index l.items))) (g.T.Store.tree l.fn.target);
   rest : g.T.Store.rest l.target ≡ g.T.Store.rest l.fn.target;
   later : g.T.Store.faults l.fn.target ≤ g.T.Store.faults l.target;
+  still : g.T.Store.faults l.target ≡ g.T.Store.faults l.fn.target;
 }

@@ -15,6 +15,7 @@ loop-done-preserved g c = record {
       (omega arith) c.in-Ok.ensures.way c.loop-done.invariant.tree c.in-Ok-make_place.ensures.tree;
   rest = c.make_place.ensures.rest ∙ c.loop-done.invariant.rest;
   later = omega (arith, c.make_place.ensures.cause.later, c.loop-done.invariant.later);
+  still = c.in-Ok-make_place.ensures.cause.still ∙ c.loop-done.invariant.still;
 }
 
 pub returns-clause-ok : goal.returns-clause-ok

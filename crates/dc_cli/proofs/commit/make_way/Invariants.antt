@@ -10,4 +10,5 @@ invariant-loop-done g l = record {
   tree : g.T.Store.tree l.target ≡ option_map (all_made (take l.done (ways l.place))) (g.T.Store.tree l.fn.target);
   rest : g.T.Store.rest l.target ≡ g.T.Store.rest l.fn.target;
   later : g.T.Store.faults l.fn.target ≤ g.T.Store.faults l.target;
+  still : g.T.Store.faults l.target ≡ g.T.Store.faults l.fn.target;
 }

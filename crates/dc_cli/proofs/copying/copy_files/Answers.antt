@@ -14,10 +14,12 @@ loop-item-init g c = record {
   tree = refl;
   rest = refl;
   later = omega arith;
+  still = refl;
   tells = refl;
   few = omega (arith, ap length c.new-files.ensures.items);
   made = omega (arith, ap length c.new-files.ensures.items);
   desk_later = omega arith;
+  desk_still = refl;
   copied = contents_start (g.S.Store.tree c.args.source.now) (map (content_in g.D.Temp.Held.content) c.new-files.result.items) (ap (map (content_in g.D.Temp.Held.content)) c.new-files.ensures.items);
 }
 
@@ -26,10 +28,12 @@ loop-item-preserved g c = record {
   tree = c.copy_item.ensures.tree ∙ c.loop-item.invariant.tree;
   rest = c.copy_item.ensures.rest ∙ c.loop-item.invariant.rest;
   later = omega (arith, c.copy_item.ensures.cause.later, c.loop-item.invariant.later);
+  still = c.in_ok-file.ensures.cause.still ∙ c.loop-item.invariant.still;
   tells = c.copy_item.ensures.tells ∙ c.loop-item.invariant.tells;
   few = omega (arith, ap length c.in_ok-push.ensures.items, length-append c.loop-item.files.items (c.in_ok-file.file ∷ []), c.loop-item.invariant.few);
   made = omega (arith, ap length c.in_ok-push.ensures.items, length-append c.loop-item.files.items (c.in_ok-file.file ∷ []), c.in_ok-file.ensures.made, c.loop-item.invariant.made);
   desk_later = omega (arith, c.copy_item.ensures.desk_cause.later, c.loop-item.invariant.desk_later);
+  desk_still = c.in_ok-file.ensures.desk_cause.still ∙ c.loop-item.invariant.desk_still;
   copied = contents_step (g.S.Store.tree c.args.source.now) (g.D.Desk.tells c.args.desk.now) c.args.root.now c.args.items.now c.loop-item.item-index c.item-item.result
       (map (content_in g.D.Temp.Held.content) c.loop-item.files.items) (map (content_in g.D.Temp.Held.content) c.push.new.self.items) (content_in g.D.Temp.Held.content c.in_ok-file.file)
       c.item-item.is c.loop-item-test.true c.if-item.false

@@ -10,9 +10,11 @@ invariant-loop-item g l = record {
   tree : g.S.Store.tree l.source ≡ g.S.Store.tree l.fn.source;
   rest : g.S.Store.rest l.source ≡ g.S.Store.rest l.fn.source;
   later : g.S.Store.faults l.fn.source ≤ g.S.Store.faults l.source;
+  still : g.S.Store.faults l.source ≡ g.S.Store.faults l.fn.source;
   tells : g.D.Desk.tells l.desk ≡ g.D.Desk.tells l.fn.desk;
   few : length l.files.items ≤ l.item-index;
   made : counted (g.D.Desk.made l.fn.desk) (length l.files.items) ≤ g.D.Desk.made l.desk;
   desk_later : g.D.Desk.faults l.fn.desk ≤ g.D.Desk.faults l.desk;
+  desk_still : g.D.Desk.faults l.desk ≡ g.D.Desk.faults l.fn.desk;
   copied : IfSome (g.S.Store.tree l.fn.source) (λ s. map (content_in g.D.Temp.Held.content) l.files.items ≡ contents_of (g.D.Desk.tells l.fn.desk) s l.root (take l.item-index l.items));
 }

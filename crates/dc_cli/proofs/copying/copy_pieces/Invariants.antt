@@ -10,9 +10,11 @@ invariant-pieces g l = record {
   tree : g.S.Store.tree l.source ≡ g.S.Store.tree l.fn.source;
   rest : g.S.Store.rest l.source ≡ g.S.Store.rest l.fn.source;
   later : g.S.Store.faults l.fn.source ≤ g.S.Store.faults l.source;
+  still : g.S.Store.faults l.source ≡ g.S.Store.faults l.fn.source;
   tells : g.D.Desk.tells l.desk ≡ g.D.Desk.tells l.fn.desk;
   made : g.D.Desk.made l.desk ≡ g.D.Desk.made l.fn.desk;
   desk_later : g.D.Desk.faults l.fn.desk ≤ g.D.Desk.faults l.desk;
+  desk_still : g.D.Desk.faults l.desk ≡ g.D.Desk.faults l.fn.desk;
   working : IsSome (g.D.Desk.current l.desk);
   copied : IfSome (g.S.Store.tree l.fn.source) (λ s. g.D.Desk.current l.desk ≡ Some (told_if (g.D.Desk.tells l.fn.desk) (take l.done (file_bytes (s l.path)))));
 }

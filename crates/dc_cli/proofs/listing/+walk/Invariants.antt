@@ -13,5 +13,6 @@ invariant-walk_dir-loop-name g l = record {
   tree : g.S.Store.tree l.source ≡ g.S.Store.tree l.fn.source;
   rest : g.S.Store.rest l.source ≡ g.S.Store.rest l.fn.source;
   later : g.S.Store.faults l.fn.source ≤ g.S.Store.faults l.source;
+  still : g.S.Store.faults l.source ≡ g.S.Store.faults l.fn.source;
   walking : Walking l.dir l.name-items l.name-index (g.S.Store.tree l.fn.source) l.fn.items l.items;
 }

@@ -19,6 +19,7 @@ loop-place-preserved g c =
             takes_next (λ (name : List ℕ). 47 ∷ name) c.args.path.now c.loop-place.place w.in-Some.name.now (g.O.Sink.bytes c.args.out.now) (g.O.Sink.bytes c.loop-place.out) (g.O.Sink.bytes w.write_name.new.out)
             (sym w.in-Some.ensures) c.loop-place.invariant.taken w.in_ok-write_name.ensures.taken;
         later = omega (arith, c.loop-place.invariant.later, w.write_name.ensures.cause.later);
+        still = w.in_ok-write_name.ensures.cause.still ∙ c.loop-place.invariant.still;
       })
       | in_default w ↦
           let within : c.loop-place.place < length c.args.path.now = omega (arith, c.loop-place-test.true, c.len-place-end.ensures.count) in
