@@ -1,0 +1,21 @@
+//! Snapshot reports, as `hdfs snapshotDiff` prints them: read, written, and what they say of paths.
+//!
+//! A report is a list of entries, each of which tells of a path that was deleted, renamed, created or modified
+//! between two snapshots of a directory (HDFS Snapshots, "Get Snapshots Difference Report"). Paths are meant from
+//! that directory on.
+#![tactic(auto)]
+
+mod entries;
+mod grammar;
+mod known;
+pub mod laws;
+mod lines;
+mod report;
+mod writing;
+
+pub use entries::{Entry, Move};
+pub use report::{Report, ReportError};
+pub use writing::WriteReportError;
+
+#[cfg(test)]
+mod tests;

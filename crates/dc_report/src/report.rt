@@ -1,0 +1,163 @@
+//! Reports.
+#![tactic(auto)]
+
+ghost use Rattle.std.specs.Prelude.{◌≡◌, ◌≢◌, [], ◌∷◌, ◌++◌, ◌+◌, ◌<◌, ◌^◌, List as Items, Some, Ok, IfOk, IfErr, OnOk};
+ghost use Rattle.std.specs.Option.{option_copied};
+ghost use Rattle.dc_path.specs.Unless.{GivesUnless};
+ghost use Rattle.dc_report.specs.declared.report.ReportError.TheVariants.{Memory};
+ghost use Rattle.dc_report.specs.declared.writing.WriteReportError.TheVariants.{Memory as Full};
+ghost use Rattle.dc_report.specs.Told.{AreTold};
+ghost use Rattle.dc_report.specs.Writing.{written};
+ghost use Rattle.dc_report.specs.Lines.{lines_behind, weight};
+ghost use Rattle.dc_report.specs.Grammar.{entry_from};
+ghost use Rattle.dc_report.specs.Known.{Knows};
+ghost use Rattle.dc_report.specs.Reports.{with_spelt, entries_from, report_from};
+
+use crate::Entry;
+use crate::grammar::{is_heading, read_entry};
+use crate::known::Known;
+use crate::lines::{first_line, without_end};
+use crate::writing::{WriteReportError, write_entries};
+use dc_path::{List, OutOfMemory, Text};
+use std::alloc::Global;
+use std::marker::Model;
+
+/// Why a text is no report. Lines count from 1, the heading included.
+#[derive(Clone, Copy, Debug, PartialEq, Eq)]
+pub enum ReportError {
+    /// There is no first line, or it is no heading.
+    BadHead,
+    /// The line is of no form of an entry.
+    BadLine { line: u64 },
+    /// The line creates or modifies a path again.
+    DoubleLine { line: u64 },
+    /// The line deletes or renames a path that was deleted or renamed.
+    DoubleSource { line: u64 },
+    /// The line renames to a path to which another was renamed.
+    DoubleTarget { line: u64 },
+    /// Memory ran out. No clause says when this comes.
+    Memory,
+}
+
+impl From<OutOfMemory> for ReportError {
+    ghost use Rattle.std.specs.Prelude.{◌≡◌};
+    ghost use Rattle.dc_report.specs.declared.report.ReportError.TheVariants.{Memory};
+
+    ghost from_gives = { λ _ e. e ≡ Memory };
+
+    fn from(_lack: OutOfMemory) -> ReportError {
+        ReportError::Memory
+    }
+}
+
+/// A report, seen as the list of its entries, in the order of its lines.
+#[derive(Drop)]
+pub struct Report {
+    entries: List<Entry>,
+}
+
+impl Model for Report {
+    ghost use Rattle.std.specs.Prelude.{List, []};
+    ghost use Rattle.dc_report.specs.Told.{AreTold};
+    ghost use Rattle.dc_report.specs.declared.entries.Entry.{Entry};
+
+    ghost Value = { List Entry };
+
+    ghost view = { λ r. r.entries };
+
+    ghost invariant = { λ r. AreTold [] r.entries };
+}
+
+// Adds the entry of a line.
+fn add_line(
+    alloc: Global,
+    known: &mut Known,
+    entries: &mut List<Entry>,
+    line: u64,
+    text: &[u8],
+) -> Result<(), ReportError>
+    requires { Knows known.old entries.old }
+    ensures knows { OnOk result (Knows known.new entries.new) }
+    ensures ok { OnOk result (with_spelt line entries.old (entry_from text.now) ≡ Ok entries.new) }
+    ensures err { IfErr result (λ e. e ≢ Memory → with_spelt line entries.old (entry_from text.now) ≡ Err e) }
+{
+    let Some(entry) = read_entry(alloc, text)? else {
+        return Err(ReportError::BadLine { line });
+    };
+    known.add(alloc, line, &entry)?;
+    entries.push(entry).map_err(|_| ReportError::Memory)
+}
+
+// The entries of the lines from the second on.
+fn read_lines(alloc: Global, lines: Option<&[u8]>) -> Result<List<Entry>, ReportError>
+    requires { weight (option_copied lines) + 2 < 2 ^ 64 }
+    ensures { GivesUnless Memory result (entries_from 2 [] (lines_behind (option_copied lines.entry))) }
+{
+    let mut known = Known::new(alloc);
+    let mut entries = List::new(alloc);
+    let mut line = 2u64;
+    let mut rest = lines;
+    while let Some(text) = rest {
+        let (first, others) = first_line(text);
+        add_line(alloc, &mut known, &mut entries, line, first)?;
+        line += 1;
+        rest = others;
+    }
+    Ok(entries)
+}
+
+impl Report {
+    /// The report that a text spells.
+    ///
+    /// Each line ends with a line feed, which may be missing at the last; empty lines behind the last that is not empty
+    /// are passed over. The first line is the heading: it begins with `Difference between ` and ends with `:`. Each
+    /// further line is `+`, `-` or `M`, a tab and a path, or `R`, a tab, a path, ` -> ` and a path. A path is `.`, or
+    /// `./` and names with one `/` between two. No name is `.snapshot`, or holds a tab or ` -> `, and `.` stands behind
+    /// `M` alone.
+    ///
+    /// # Errors
+    ///
+    /// The first line with a fault decides, and within a line the first of these:
+    ///
+    /// - `BadHead`, where the first line is no heading in UTF-8;
+    /// - `BadLine`, where a line is of no such form, is not UTF-8, is empty, or has a path outside the limits of `Path`;
+    /// - `DoubleLine`, where a path is created or modified that an earlier line of that kind has;
+    /// - `DoubleSource`, where a path is deleted or renamed that an earlier line deletes or renames;
+    /// - `DoubleTarget`, where the second path of a rename is that of an earlier line.
+    ///
+    /// `Memory` may come in the place of any answer.
+    pub fn read(alloc: Global, text: &[u8]) -> Result<Report, ReportError>
+        ensures { GivesUnless Memory result (report_from text.now) }
+    {
+        let (heading, lines) = first_line(without_end(text));
+        if !is_heading(heading) {
+            return Err(ReportError::BadHead);
+        }
+        let entries = read_lines(alloc, lines)?;
+        Ok(Report { entries })
+    }
+
+    /// The entries, in the order of their lines. They are entries that a text can tell.
+    pub fn entries(&self) -> &List<Entry>
+        ensures entries { result.now ≡ self.now }
+        ensures told { AreTold [] self.now }
+    {
+        &self.entries
+    }
+
+    /// The text of the report: the heading and then a line for each entry, in order, each with a line feed.
+    ///
+    /// # Errors
+    ///
+    /// - `BadHead`, exactly where the heading does not begin with `Difference between ` and end with `:`, or holds a
+    ///   line feed;
+    /// - else `Ambiguous` with the first path that has a name with a tab, a line feed or ` -> `, exactly where there is
+    ///   one;
+    /// - `Memory`, which may come in the place of any answer.
+    pub fn write(&self, alloc: Global, heading: &Text) -> Result<Text, WriteReportError>
+        ensures text { GivesUnless Full result (written heading.now self.now) }
+        ensures read_back { IfOk result (λ text. report_from text ≡ Ok self.now) }
+    {
+        write_entries(alloc, heading, self.entries.as_slice())
+    }
+}
