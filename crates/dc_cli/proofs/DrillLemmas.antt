@@ -1,15 +1,11 @@
 -- A drill: what its texts read as, and what its tree is.
-use Rattle.std.proofs.Common.{◌≡◌, ◌<◌, ◌^◌, ℕ, Bool, true, false, cond, ◌||◌, List, [], ◌∷◌, ◌++◌, map, length, codes, min, Option, Some, None, Result, Ok, Err, refl, sym, ap, ◌∙◌, subst, arith, rules, get_or, append_assoc, add-one, IfSome, zero, suc}
-use Rattle.std.specs.Char.{is_ascii_digit}
-use Rattle.std.specs.List.{list_all, list_any, range_with_len}
+use Rattle.std.proofs.Common.{◌≡◌, ◌<◌, ℕ, Bool, true, false, cond, ◌||◌, List, [], ◌∷◌, ◌++◌, map, length, codes, min, Option, Some, None, Ok, refl, sym, ap, ◌∙◌, subst, arith, rules, get_or, append_assoc, add-one, IfSome, zero, suc}
+use Rattle.std.specs.List.{list_any, range_with_len}
 use Rattle.std.specs.Str.{IsAscii, is_utf8}
-use Rattle.std.specs.Result.{OkIff, result_ok}
-use Rattle.std.specs.Str.Parse.{digits_value, ParsesUnsigned}
 use Rattle.std.proofs.lemmas.List.Folds.{list_any-append}
 use Rattle.std.proofs.lemmas.List.FromFn.{map-range_with_len_more, length-map-range_with_len, get_or-map-range_with_len}
 use Rattle.std.proofs.Math.Bool.{or-false}
 use Rattle.std.proofs.lemmas.Str.{is_utf8-from_IsUtf8, IsUtf8-from_ascii}
-use Rattle.std.proofs.lemmas.Str.Parse.{IsNumeralModel, IsDigitsTest, numerals_by_value, parse_digits}
 use Rattle.std.proofs.Math.Path.{fun_ext}
 use Rattle.dc_path.specs.Names.{is_name}
 use Rattle.dc_path.specs.Paths.{Names, same_path}
@@ -17,23 +13,9 @@ use Rattle.dc_path.specs.Reading.{path_from}
 use Rattle.dc_path.proofs.LawProofs.{text_reads_back}
 use Rattle.dc_attrs.specs.Attributes.{default_file, default_dir}
 use Rattle.dc_attrs.specs.Trees.{Dir, File, Tree}
-use Rattle.dc_cli.specs.Drills.{number_from, drill_source, drill_target, drill_tree, dir_path, file_path, file_bytes, file_or}
+use Rattle.dc_cli.specs.Drills.{drill_source, drill_target, drill_tree, dir_path, file_path, file_bytes, file_or}
 use Rattle.dc_cli.specs.DrillSteps.{way_tree, with_dirs, with_files}
 use Rattle.dc_cli.specs.Words.{Asks, is_option}
-
--- ---- numbers
-digits_test : IsDigitsTest (λ ds. list_all is_ascii_digit ds ≡ true)
-digits_test = search rules
-
-own_digits : IsNumeralModel (λ ds. list_all is_ascii_digit ds ≡ true) (digits_value 10)
-own_digits = numerals_by_value _ digits_test
-
-number_is : {E : Type 0} (text : List ℕ) (r : Result ℕ E) → list_all is_ascii_digit text ≡ true → OkIff r ((0 < length text) × (digits_value 10 text < 2 ^ 64)) (digits_value 10 text) → result_ok r ≡ number_from text
-number_is text (Ok n) p h = grind (arith, rules, p, h.0.0, h.0.1, h.1)
-number_is text (Err e) p h = grind (arith, rules, p, h)
-
-pub number_read : {E : Type 0} (text : List ℕ) (r : Result ℕ E) → list_all is_ascii_digit text ≡ true → ParsesUnsigned 64 10 text r → result_ok r ≡ number_from text
-number_read text r p h = number_is text r p (parse_digits own_digits 64 text r h p)
 
 -- ---- paths
 ascii_name : (bs : List ℕ) → IsAscii bs → is_utf8 bs ≡ true

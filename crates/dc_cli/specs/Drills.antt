@@ -1,18 +1,10 @@
--- The tree that a drill copies, made by a seed and a number of files, and how a drill reads a number.
-use Rattle.std.specs.Prelude.{ℕ, zero, suc, ◌+◌, ◌*◌, ◌^◌, ◌%◌, cond, min, List, [], ◌∷◌, ◌++◌, map, length, codes, Option, Some, None, nat_lt, ◌&&◌, if◌then◌else◌}
-use Rattle.std.specs.Char.{is_ascii_digit}
+-- The tree that a drill copies, made by a seed and a number of files.
+use Rattle.std.specs.Prelude.{ℕ, zero, suc, ◌+◌, ◌*◌, ◌^◌, ◌%◌, cond, min, List, [], ◌∷◌, ◌++◌, map, codes, Option, Some, None}
 use Rattle.std.specs.Fmt.{decimal}
-use Rattle.std.specs.List.{list_all, list_any, range_with_len}
-use Rattle.std.specs.Str.Parse.{digits_value}
+use Rattle.std.specs.List.{list_any, range_with_len}
 use Rattle.dc_path.specs.Paths.{Names, same_path}
 use Rattle.dc_attrs.specs.Attributes.{default_file, default_dir}
 use Rattle.dc_attrs.specs.Trees.{Node, Dir, File, Tree}
-
--- the number below 2 ^ 64 that a text of decimal digits writes
-abbrev pub number_from : List ℕ → Option ℕ
-number_from text =
-    if list_all is_ascii_digit text && nat_lt 0 (length text) && nat_lt (digits_value 10 text) (2 ^ 64)
-    then Some (digits_value 10 text) else None
 
 -- a sum of 64 bits
 abbrev pub sum_64 : ℕ → ℕ → ℕ

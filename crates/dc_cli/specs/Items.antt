@@ -26,7 +26,7 @@ is_dir (File b a) = false
 
 -- the item's place under the base is within the limits of a path
 abbrev pub fits_under : Names → Item → Bool
-fits_under base item = nat_le (length (base ++ item.rel)) 256 && nat_le (length (joined (base ++ item.rel))) 4096
+fits_under base item = fits (base ++ item.rel)
 
 -- each listed path has its item, and there is no other item
 abbrev pub AreItems : Listing → List Item → Type 0

@@ -5,8 +5,6 @@ use Rattle.dc_attrs.specs.Trees.{Tree, updated, made}
 use Rattle.dc_attrs.specs.Refusals.{refused_dir, refused_put}
 use Rattle.dc_attrs.specs.declared.refusals.TreeError.{TreeError}
 use Rattle.dc_attrs.specs.declared.refusals.TreeError.TheVariants as tree_error
-use Rattle.dc_fs.specs.declared.errors.WriteError.{WriteError}
-use Rattle.dc_fs.specs.declared.errors.WriteError.TheVariants as write_error
 use Rattle.dc_cli.specs.Items.{fits}
 use Rattle.dc_cli.specs.Phases.{Content, dir_places, landed_as}
 use Rattle.dc_cli.specs.Steps.{is_told}
@@ -19,12 +17,6 @@ abbrev pub is_step_changed : StepError → Bool
 is_step_changed (step_error.Fault done) = false
 is_step_changed (step_error.Changed path) = true
 is_step_changed (step_error.Memory done) = false
-
--- an answer of the target that is neither a fault nor want of memory
-abbrev pub is_write_refusal : WriteError → Bool
-is_write_refusal write_error.Fault = false
-is_write_refusal write_error.Memory = false
-is_write_refusal e = true
 
 -- a refusal other than that something stands there already
 abbrev pub is_hindrance : Option TreeError → Bool

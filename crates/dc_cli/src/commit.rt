@@ -4,11 +4,11 @@
 ghost use Rattle.std.specs.Prelude.{◌≡◌, ℕ, ◌+◌, ◌^◌, ◌<◌, ◌≤◌, ◌++◌, map, take, length, true, false, IfOk, IfErr, IfSome, OnOk, OnErr, IsErrOf};
 ghost use Rattle.std.specs.Option.{option_map};
 ghost use Rattle.dc_attrs.specs.Trees.{updated, made};
-ghost use Rattle.dc_fs.specs.Answers.{Changes};
+ghost use Rattle.dc_fs.specs.Answers.{Changes, is_refusal};
 ghost use Rattle.dc_fs.specs.Causes.{Rose, HasCause};
 ghost use Rattle.dc_cli.specs.Phases.{ways, dir_places, folder_places, all_made};
 ghost use Rattle.dc_cli.specs.Items.{fits};
-ghost use Rattle.dc_cli.specs.Makeable.{is_step_changed, is_write_refusal, CanMakeAt, CanMake, CanMakeAll, CanLandAt, CanLandAll};
+ghost use Rattle.dc_cli.specs.Makeable.{is_step_changed, CanMakeAt, CanMake, CanMakeAll, CanLandAt, CanLandAll};
 ghost use Rattle.dc_cli.specs.Ready.{content_in};
 ghost use Rattle.dc_cli.specs.Steps.{is_step_fault, LandsAll, Landing};
 ghost use Rattle.dc_cli.specs.Stops.{StopsAfter, MadeUpTo, Behind, LandedUpTo};
@@ -33,7 +33,7 @@ pub enum StepError {
 // What is answered of a call at a path that the target refused after so many elements.
 fn stopped(alloc: Global, error: WriteError, path: &Path, done: u64) -> StepError
     ensures fault { is_step_fault result ≡ true → error ≡ WriteError.Fault }
-    ensures changed { is_step_changed result ≡ true → is_write_refusal error ≡ true }
+    ensures changed { is_step_changed result ≡ true → is_refusal error ≡ true }
     ensures done { StopsAfter (λ k. k ≡ done) result }
 {
     match error {
@@ -49,7 +49,7 @@ fn stopped(alloc: Global, error: WriteError, path: &Path, done: u64) -> StepErro
 // A path under the base. One that passes the limits of a path is refused as missing.
 fn place_under(alloc: Global, base: &Path, rel: &Path) -> Result<Path, WriteError>
     ensures place { IfOk result (λ place. place ≡ base.now ++ rel.now) }
-    ensures limits { IfErr result (λ e. is_write_refusal e ≡ true → fits (base.now ++ rel.now) ≡ false) }
+    ensures limits { IfErr result (λ e. is_refusal e ≡ true → fits (base.now ++ rel.now) ≡ false) }
     ensures no_fault { IsErrOf result WriteError.Fault → ⊥ }
 {
     match base.join(alloc, rel) {
@@ -62,7 +62,7 @@ fn place_under(alloc: Global, base: &Path, rel: &Path) -> Result<Path, WriteErro
 // Makes a directory where nothing stands.
 fn make_place<T: Target>(alloc: Global, target: &mut T, place: &Path) -> Result<(), WriteError>
     ensures tree { Changes (λ t. updated t place.now made) (T.tree target.old) (T.tree target.new) result }
-    ensures changed { IfErr result (λ e. is_write_refusal e ≡ true → IfSome (T.tree target.old) (λ t. CanMakeAt t place.now → ⊥)) }
+    ensures changed { IfErr result (λ e. is_refusal e ≡ true → IfSome (T.tree target.old) (λ t. CanMakeAt t place.now → ⊥)) }
     ensures rest { T.rest target.new ≡ T.rest target.old }
     ensures cause { HasCause (T.faults target.old) (T.faults target.new) result WriteError.Fault }
 {
@@ -102,7 +102,7 @@ fn way_on(alloc: Global, front: &Path, path: &Path, count: usize) -> Result<Path
     requires inside { count < length path.now }
     requires front { front.now ≡ take count path.now }
     ensures way { IfOk result (λ way. way ≡ take (count + 1) path.now) }
-    ensures limits { IfErr result (λ e. is_write_refusal e ≡ true → fits (take (count + 1) path.now) ≡ false) }
+    ensures limits { IfErr result (λ e. is_refusal e ≡ true → fits (take (count + 1) path.now) ≡ false) }
     ensures no_fault { IsErrOf result WriteError.Fault → ⊥ }
 {
     let Some(name) = path.name(count) else {
@@ -123,7 +123,7 @@ fn make_item<T: Target>(
     item: &Item,
 ) -> Result<(), WriteError>
     ensures tree { Changes (λ t. updated t (base.now ++ item.now.rel) made) (T.tree target.old) (T.tree target.new) result }
-    ensures changed { IfErr result (λ e. is_write_refusal e ≡ true → IfSome (T.tree target.old) (λ t. CanMakeAt t (base.now ++ item.now.rel) → ⊥)) }
+    ensures changed { IfErr result (λ e. is_refusal e ≡ true → IfSome (T.tree target.old) (λ t. CanMakeAt t (base.now ++ item.now.rel) → ⊥)) }
     ensures rest { T.rest target.new ≡ T.rest target.old }
     ensures cause { HasCause (T.faults target.old) (T.faults target.new) result WriteError.Fault }
 {
@@ -191,7 +191,7 @@ fn land_one<T: Target>(
 ) -> Result<(), WriteError>
     requires { 1 ≤ (T.rest target.old).scratch }
     ensures ok { OnOk result (Landing base.now (content_in T.Desk.Temp.content file) (T.tree target.old) (T.tree target.new) (T.rest target.old) (T.rest target.new)) }
-    ensures changed { IfErr result (λ e. is_write_refusal e ≡ true → IfSome (T.tree target.old) (λ t. CanLandAt t base.now (content_in T.Desk.Temp.content file) → ⊥)) }
+    ensures changed { IfErr result (λ e. is_refusal e ≡ true → IfSome (T.tree target.old) (λ t. CanLandAt t base.now (content_in T.Desk.Temp.content file) → ⊥)) }
     ensures kept { OnErr result (T.rest target.new ≡ T.rest target.old) }
     ensures kept_tree { OnErr result (T.tree target.new ≡ T.tree target.old) }
     ensures desks { (T.rest target.new).desk_faults ≡ (T.rest target.old).desk_faults }

@@ -2,8 +2,7 @@
 #![tactic(auto)]
 
 ghost use Rattle.std.specs.Prelude.{◌≡◌, ◌%◌, ◌≢◌, ◌≤◌, ◌<◌, ◌⊎◌, ◌↔◌, ◌++◌, ◌∷◌, [], true, false, codes, map, min, Ok, IfOk, OnOk};
-ghost use Rattle.std.specs.Char.{is_ascii_digit};
-ghost use Rattle.std.specs.List.{list_all, range_with_len};
+ghost use Rattle.std.specs.List.{range_with_len};
 ghost use Rattle.std.specs.Fmt.{decimal};
 ghost use Rattle.std.specs.Option.{option_map};
 ghost use Rattle.dc_path.specs.Reading.{path_from};
@@ -12,7 +11,7 @@ ghost use Rattle.dc_attrs.specs.Trees.{File, with_node};
 ghost use Rattle.dc_fs.specs.Causes.{Rose};
 ghost use Rattle.dc_tree.specs.Arena.{tree_of};
 ghost use Rattle.dc_cli.specs.Checks.{is_committed};
-ghost use Rattle.dc_cli.specs.Drills.{dir_path, drill_source, drill_target, drill_tree, file_bytes, file_path, number_from};
+ghost use Rattle.dc_cli.specs.Drills.{dir_path, drill_source, drill_target, drill_tree, file_bytes, file_path};
 ghost use Rattle.dc_cli.specs.DrillSteps.{way_tree, with_dir, with_dirs, with_files};
 ghost use Rattle.dc_cli.specs.Effects.{AreCounts, none_counted};
 ghost use Rattle.dc_cli.specs.Listed.{listed};
@@ -57,23 +56,6 @@ pub enum Drilled {
     Unprinted,
     /// Memory ran out.
     Memory,
-}
-
-// Whether each byte is a decimal digit.
-fn are_digits(bytes: &[u8]) -> bool
-    ensures { result ≡ list_all is_ascii_digit bytes.now }
-{
-    bytes.iter().all(|byte| byte.is_ascii_digit())
-}
-
-/// The number of 64 bits that decimal digits write, leading zeros allowed; `None` for every other text.
-pub fn read_number(text: &str) -> Option<u64>
-    ensures { result ≡ number_from text.now }
-{
-    if !are_digits(text.as_bytes()) {
-        return None;
-    }
-    text.parse().ok()
 }
 
 // The name that is a letter and a number.

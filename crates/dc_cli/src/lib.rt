@@ -13,7 +13,7 @@ mod survey;
 mod top;
 mod words;
 
-pub use drills::{Drilled, MAX_COUNT, MIN_COUNT, drill, read_number};
+pub use drills::{Drilled, MAX_COUNT, MIN_COUNT, drill};
 pub use outcome::{Answer, BadTarget, Counts, OptionError, Outcome, Phase, TooManyOf};
 pub use output::{print, status};
 pub use stdout::StdSink;

@@ -3,11 +3,11 @@ use Rattle.std.proofs.Common.{◌≡◌, ℕ, ◌+◌, ◌≤◌, true, false, L
 use Rattle.std.proofs.lemmas.Grind.{common_steps}
 use Rattle.std.proofs.lemmas.List.{length-map}
 use Rattle.std.specs.List.{list_all, list_any}
+use Rattle.dc_path.specs.Lines.{lines_of}
+use Rattle.dc_path.proofs.LineLemmas.{no_lines}
 use Rattle.dc_filter.specs.declared.filter.FilterError.TheVariants.{BadPattern}
-use Rattle.dc_filter.specs.Lines.{lines_of}
 use Rattle.dc_filter.specs.Forms.{finds, wrapped, unwrapped, lines_in, AreForms, is_good_line, any_finds}
 use Rattle.dc_filter.specs.Filters.{filter_from, unless_bad, good_lines, IsReached}
-use Rattle.dc_filter.proofs.LineLemmas.{lines_of-empty}
 
 -- ---- lines and their wrapped forms
 -- asking the wrapped forms of lines
@@ -53,7 +53,7 @@ module _ {text rest : List ℕ} {forms : List (List ℕ)} {number : ℕ} (r : Is
   -- where nothing is left, the lines are the answer
   pub reading_end : length rest ≡ 0 → filter_from text ≡ Ok (lines_in forms)
   reading_end h =
-      ap unless_bad (r.split ∙ ap (λ (xs : List (List ℕ)). lines_in forms ++ xs) (lines_of-empty rest h) ∙ append-nil (lines_in forms))
+      ap unless_bad (r.split ∙ ap (λ (xs : List (List ℕ)). lines_in forms ++ xs) (no_lines rest h) ∙ append-nil (lines_in forms))
       ∙ unless_bad-all (lines_in forms) r.good
 
   module _ (line after : List ℕ) (first : lines_of rest ≡ line ∷ lines_of after) where

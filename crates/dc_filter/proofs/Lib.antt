@@ -1,5 +1,4 @@
 -- The modules of the lemmas.
 pub mod PatternLemmas
-pub mod LineLemmas
 pub mod FilterLemmas
 pub mod LawProofs

@@ -1,6 +1,6 @@
 -- What `RegexPatterns` keeps, and what a build makes of it.
 use Rattle.std.specs.Prelude.{ℕ, Bool, false, nat_le, Option, Some, None}
-use Rattle.dc_filter.specs.Causes.{raised}
+use Rattle.dc_path.specs.Causes.{raised}
 
 -- from which build on it refuses for size, how many it has begun, and how many it has refused for size
 pub record Building : Type 0 where

@@ -1,10 +1,10 @@
 -- What a file of patterns reads as, and which paths its lines exclude (Hadoop DistCp, `-filters` and `RegexCopyFilter`).
 use Rattle.std.specs.Prelude.{◌≡◌, ℕ, ◌+◌, ◌≤◌, ⊤, Bool, nat_lt, List, length, Result, Ok, Err, if◌then◌else◌}
 use Rattle.std.specs.List.{prefix_len}
+use Rattle.dc_path.specs.Lines.{lines_of}
 use Rattle.dc_path.specs.Paths.{Names, text_of}
 use Rattle.dc_filter.specs.declared.filter.FilterError.{FilterError}
 use Rattle.dc_filter.specs.declared.filter.FilterError.TheVariants.{BadPattern, BigPattern, Memory}
-use Rattle.dc_filter.specs.Lines.{lines_of}
 use Rattle.dc_filter.specs.Forms.{is_good_line, any_finds}
 
 -- the wrapped form of some line is found in the text of the path

@@ -2,14 +2,13 @@
 #![tactic(auto)]
 
 ghost use Rattle.std.specs.Prelude.{◌≡◌, ℕ, ◌≤◌, [], false, IfOk, OnOk, IsErrOf, IsTrue, string_bytes};
-ghost use Rattle.dc_filter.specs.Causes.{Rose};
+ghost use Rattle.dc_path.specs.Causes.{Rose};
+ghost use Rattle.dc_path.specs.Lines.{lines_of};
 ghost use Rattle.dc_filter.specs.Forms.{wrapped, is_good_line, any_finds};
-ghost use Rattle.dc_filter.specs.Lines.{lines_of};
 
-use crate::lines::first_line;
 use crate::search::any_is_in;
 use crate::{BuildError, Pattern, Patterns, Search};
-use dc_path::{OutOfMemory, Path};
+use dc_path::{OutOfMemory, Path, first_line};
 use std::alloc::{AllocError, AllocFailed, Global};
 use std::marker::Model;
 

@@ -7,7 +7,6 @@
 
 mod filter;
 pub mod laws;
-mod lines;
 mod pattern;
 mod search;
 

@@ -2,8 +2,8 @@
 #![tactic(auto)]
 
 ghost use Rattle.std.specs.Prelude.{◌≡◌, ◌≢◌, ℕ, ◌≤◌, false, IfOk, IfErr, OnOk, IsErrOf, IsTrue};
+ghost use Rattle.dc_path.specs.Causes.{raised, Rose};
 ghost use Rattle.dc_filter.specs.Building.{is_told, is_due, with_build, with_refusal};
-ghost use Rattle.dc_filter.specs.Causes.{raised, Rose};
 ghost use Rattle.dc_filter.specs.Forms.{is_pattern};
 
 use crate::Search;

@@ -1,31 +1,11 @@
--- Numbers and entries of a line.
-use Rattle.std.proofs.Common.{◌≡◌, ℕ, ◌+◌, ◌-◌, ◌*◌, ◌<◌, ◌≤◌, Bool, true, false, nat_eq, codes, List, [], ◌∷◌, length, take, get_or, Option, None, Some, refl, ap, ◌∙◌, arith}
-use Rattle.std.specs.Char.{is_ascii_digit, digit_value}
+-- The entries of a line.
+use Rattle.std.proofs.Common.{◌≡◌, ℕ, ◌<◌, Bool, true, false, nat_eq, codes, List, [], ◌∷◌, length, Option, None, Some, refl, ap, ◌∙◌, arith}
 use Rattle.std.specs.Cmp.Lexicographic.{pointwise}
 use Rattle.std.specs.Option.{is_some}
-use Rattle.std.specs.Str.Parse.{digits_value}
-use Rattle.std.proofs.lemmas.Bool.Decides.{nat_tests}
-use Rattle.std.proofs.lemmas.Int.Digits.{digits_value_more}
 use Rattle.std.proofs.lemmas.List.Splits.{length-slice_split}
-use Rattle.std.proofs.lemmas.Str.Parse.{digits_value-take-le}
-use Rattle.dc_kills.specs.Lines.{is_blank, parts_of, parts_behind}
-use Rattle.dc_kills.specs.Entries.{number_in, worker_from, entry_by, entry_of, entry_from}
-
--- ---- numbers
-digit_is : (c : ℕ) → is_ascii_digit c ≡ true → digit_value c ≡ c - 48
-digit_is c h = grind (arith, nat_tests)
-
--- a digit more
-pub value_more : (digits : List ℕ) (i : ℕ) → i < length digits → is_ascii_digit (get_or digits i 0) ≡ true →
-    digits_value 10 (take (i + 1) digits) ≡ digits_value 10 (take i digits) * 10 + (get_or digits i 0 - 48)
-value_more digits i l h = digits_value_more 10 digits i l ∙ ap (λ d. digits_value 10 (take i digits) * 10 + d) (digit_is (get_or digits i 0) h)
-
--- digits in front that write a number past the bound
-pub past_most : (least most : ℕ) (digits : List ℕ) (i : ℕ) → most < digits_value 10 (take i digits) → number_in least most digits ≡ None
-past_most least most digits i h =
-    let more : digits_value 10 (take i digits) ≤ digits_value 10 digits = digits_value-take-le 10 digits i (omega arith) in
-    let past : most < digits_value 10 digits = omega arith in
-    grind (arith, nat_tests)
+use Rattle.dc_path.specs.Numbers.{number_in}
+use Rattle.dc_kills.specs.Parts.{is_blank, parts_of, parts_behind}
+use Rattle.dc_kills.specs.Entries.{worker_from, entry_by, entry_of, entry_from}
 
 -- ---- the last part
 -- a part behind the word is one too many

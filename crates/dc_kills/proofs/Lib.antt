@@ -1,4 +1,3 @@
 -- The modules of the proofs.
-pub mod LineLemmas
 pub mod EntryLemmas
 pub mod Reading

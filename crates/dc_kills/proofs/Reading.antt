@@ -3,19 +3,19 @@ use Rattle.std.proofs.Common.{◌≡◌, ℕ, ◌+◌, ◌<◌, ◌≤◌, Bool,
 use Rattle.std.specs.Cmp.{tied_then}
 use Rattle.std.specs.List.{filter_map, cons_option}
 use Rattle.std.specs.Map.{lookup}
-use Rattle.std.specs.Option.{is_some}
+use Rattle.std.specs.Option.{is_some, option_or}
 use Rattle.std.specs.Ordering.{nat_cmp, is_eq}
 use Rattle.std.proofs.lemmas.Bool.Decides.{nat_tests}
 use Rattle.std.proofs.lemmas.List.Elements.{filter_map-append}
+use Rattle.dc_path.specs.Lines.{lines_of}
+use Rattle.dc_path.proofs.LineLemmas.{no_lines}
 use Rattle.dc_kills.specs.declared.stop.Stop.{Stop}
 use Rattle.dc_kills.specs.declared.plan.PlanError.{PlanError}
 use Rattle.dc_kills.specs.declared.plan.PlanError.TheVariants.{BadLine, Repeated}
-use Rattle.dc_kills.specs.Lines.{lines_of}
 use Rattle.dc_kills.specs.Entries.{Attempt, Entry, entry_from}
 use Rattle.dc_kills.specs.Plans.{is_same, stop_in, stop_of, attempt_cmp}
-use Rattle.dc_kills.specs.Faults.{fault_by, fault_at, or_else, first_fault, fault_of}
+use Rattle.dc_kills.specs.Faults.{fault_by, fault_at, first_fault, fault_of}
 use Rattle.dc_kills.specs.Reading.{GainsLine}
-use Rattle.dc_kills.proofs.LineLemmas.{no_lines}
 
 -- ---- attempts
 -- the order of attempts ties at the same ones alone
@@ -100,15 +100,15 @@ reading_start text = record { before = []; lines = refl; faults = refl; stops = 
 
 module _ {text rest : List ℕ} {plan : List Entry} {number : ℕ} (i : IsReading text rest plan number) where
   pub reading_end : rest ≡ [] → fault_of text ≡ None
-  reading_end e = sym i.faults ∙ ap (first_fault i.before) (ap lines_of e ∙ no_lines)
+  reading_end e = sym i.faults ∙ ap (first_fault i.before) (ap lines_of e ∙ no_lines [] refl)
 
   pub reading_stops : rest ≡ [] → (attempt : Attempt) → stop_in plan attempt ≡ stop_of (lines_of text) attempt
   reading_stops e attempt =
-      let all : i.before ≡ lines_of text = sym (append-nil i.before) ∙ ap (λ lines. i.before ++ lines) (sym (ap lines_of e ∙ no_lines)) ∙ i.lines in
+      let all : i.before ≡ lines_of text = sym (append-nil i.before) ∙ ap (λ lines. i.before ++ lines) (sym (ap lines_of e ∙ no_lines [] refl)) ∙ i.lines in
       i.stops attempt ∙ ap (λ lines. stop_of lines attempt) all
 
   module _ (line others : List ℕ) (split : lines_of rest ≡ line ∷ lines_of others) where
-    next_fault : fault_of text ≡ or_else (fault_at i.before line) (first_fault (i.before ++ line ∷ []) (lines_of others))
+    next_fault : fault_of text ≡ option_or (fault_at i.before line) (first_fault (i.before ++ line ∷ []) (lines_of others))
     next_fault = sym i.faults ∙ ap (first_fault i.before) split
 
     within : number + 1 ≤ 65536 → fault_at i.before line ≡ fault_by (number + 1) (stop_in plan) (entry_from line)
@@ -122,12 +122,12 @@ module _ {text rest : List ℕ} {plan : List Entry} {number : ℕ} (i : IsReadin
     pub reading_long : 65536 < number + 1 → fault_of text ≡ Some (BadLine (number + 1))
     reading_long h =
         let many : 65536 ≤ length i.before = omega (arith, i.counted) in
-        next_fault ∙ ap (λ fault. or_else fault (first_fault (i.before ++ line ∷ []) (lines_of others))) (at_past i.before line many)
+        next_fault ∙ ap (λ fault. option_or fault (first_fault (i.before ++ line ∷ []) (lines_of others))) (at_past i.before line many)
         ∙ ap (λ n. Some (BadLine (n + 1))) (sym i.counted)
 
     -- a line with a fault
     pub reading_fault : (fault : PlanError) → number + 1 ≤ 65536 → fault_by (number + 1) (stop_in plan) (entry_from line) ≡ Some fault → fault_of text ≡ Some fault
-    reading_fault fault h e = next_fault ∙ ap (λ fault. or_else fault (first_fault (i.before ++ line ∷ []) (lines_of others))) (within h ∙ e)
+    reading_fault fault h e = next_fault ∙ ap (λ fault. option_or fault (first_fault (i.before ++ line ∷ []) (lines_of others))) (within h ∙ e)
 
     -- a line without a fault
     pub reading_more : (new : List Entry) → number + 1 ≤ 65536 → GainsLine plan new line → IsReading text others new (number + 1)
@@ -140,7 +140,7 @@ module _ {text rest : List ℕ} {plan : List Entry} {number : ℕ} (i : IsReadin
           before = i.before ++ line ∷ [];
           lines = append_assoc i.before (line ∷ []) (lines_of others) ∙ ap (λ lines. i.before ++ lines) (sym split) ∙ i.lines;
           faults =
-              sym (next_fault ∙ ap (λ fault. or_else fault (first_fault (i.before ++ line ∷ []) (lines_of others))) (within h ∙ none));
+              sym (next_fault ∙ ap (λ fault. option_or fault (first_fault (i.before ++ line ∷ []) (lines_of others))) (within h ∙ none));
           stops =
               λ attempt. g.stops attempt ∙ gained plan g.entry attempt g.fresh
               ∙ ap (λ stop. or_stop stop (cond (is_same attempt g.entry.0) (Some g.entry.1) None)) (i.stops attempt)

@@ -1,11 +1,9 @@
 -- What a line of a kill plan says.
-use Rattle.std.specs.Prelude.{ℕ, Bool, true, false, List, [], ◌∷◌, length, Option, Some, None, codes, nat_lt, nat_le, nat_eq, ◌&&◌, if◌then◌else◌}
-use Rattle.std.specs.Char.{is_ascii_digit}
-use Rattle.std.specs.List.{list_all}
-use Rattle.std.specs.Str.Parse.{digits_value}
+use Rattle.std.specs.Prelude.{ℕ, Bool, true, false, List, [], ◌∷◌, Option, Some, None, codes, nat_eq, if◌then◌else◌}
 use Rattle.std.specs.Cmp.Lexicographic.{pointwise}
+use Rattle.dc_path.specs.Numbers.{number_in}
 use Rattle.dc_kills.specs.declared.stop.Stop.{Stop}
-use Rattle.dc_kills.specs.Lines.{parts_of}
+use Rattle.dc_kills.specs.Parts.{parts_of}
 
 -- a piece, and the number of an attempt at it
 abbrev pub Attempt : Type 0
@@ -14,12 +12,6 @@ Attempt = ℕ × ℕ
 -- an attempt, and where it is stopped
 abbrev pub Entry : Type 0
 Entry = Attempt × Stop
-
--- the number that decimal digits write, leading zeros allowed, where it is within these bounds
-abbrev pub number_in : ℕ → ℕ → List ℕ → Option ℕ
-number_in least most digits =
-    if list_all is_ascii_digit digits && nat_lt 0 (length digits) && nat_le least (digits_value 10 digits) && nat_le (digits_value 10 digits) most
-    then Some (digits_value 10 digits) else None
 
 -- whether the worker stops too, by the parts behind the step: there is none, or it is `worker`
 abbrev pub worker_from : List (List ℕ) → Option Bool

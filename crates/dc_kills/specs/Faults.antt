@@ -1,10 +1,10 @@
 -- Why a text is no kill plan.
 use Rattle.std.specs.Prelude.{◌≡◌, ℕ, ◌+◌, List, [], ◌∷◌, ◌++◌, length, Option, Some, None, nat_lt, if◌then◌else◌}
-use Rattle.std.specs.Option.{is_some}
+use Rattle.std.specs.Option.{is_some, option_or}
+use Rattle.dc_path.specs.Lines.{lines_of}
 use Rattle.dc_kills.specs.declared.stop.Stop.{Stop}
 use Rattle.dc_kills.specs.declared.plan.PlanError.{PlanError}
 use Rattle.dc_kills.specs.declared.plan.PlanError.TheVariants.{BadLine, Repeated}
-use Rattle.dc_kills.specs.Lines.{lines_of}
 use Rattle.dc_kills.specs.Entries.{Attempt, Entry, entry_from}
 use Rattle.dc_kills.specs.Plans.{stop_in, stop_of}
 
@@ -18,15 +18,10 @@ abbrev pub fault_at : List (List ℕ) → List ℕ → Option PlanError
 fault_at before line =
     if nat_lt (length before) 65536 then fault_by (length before + 1) (stop_of before) (entry_from line) else Some (BadLine (length before + 1))
 
--- the fault, if there is one, and else another
-abbrev pub or_else : Option PlanError → Option PlanError → Option PlanError
-or_else (Some fault) other = Some fault
-or_else None other = other
-
 -- what is wrong with the first line that has a fault, behind the lines before
 abbrev pub first_fault : List (List ℕ) → List (List ℕ) → Option PlanError
 first_fault before [] = None
-first_fault before (line ∷ lines) = or_else (fault_at before line) (first_fault (before ++ line ∷ []) lines)
+first_fault before (line ∷ lines) = option_or (fault_at before line) (first_fault (before ++ line ∷ []) lines)
 
 -- why a text is no kill plan; none where it is one
 abbrev pub fault_of : List ℕ → Option PlanError

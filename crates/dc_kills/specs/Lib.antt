@@ -1,5 +1,5 @@
 -- The modules of the definitions.
-pub mod Lines
+pub mod Parts
 pub mod Entries
 pub mod Plans
 pub mod Faults

@@ -3,36 +3,18 @@
 
 ghost use Rattle.std.specs.Prelude.{◌≡◌};
 ghost use Rattle.std.specs.Option.{option_copied};
-ghost use Rattle.dc_kills.specs.Entries.{entry_from, worker_from, number_in};
-ghost use Rattle.dc_kills.specs.Lines.{parts_behind};
+ghost use Rattle.dc_kills.specs.Entries.{entry_from, worker_from};
+ghost use Rattle.dc_kills.specs.Parts.{parts_behind};
 
 use crate::Stop;
-use crate::lines::first_part;
+use crate::parts::first_part;
+use dc_path::read_number;
 
 /// The greatest number of a piece that a plan may name.
 pub const MAX_PIECE: u64 = 8_388_607;
 
 /// The greatest number of an attempt that a plan may name.
 pub const MAX_ATTEMPT: u64 = 4_294_967_295;
-
-// The number that decimal digits write, leading zeros allowed, where it is within these bounds.
-fn read_number(digits: &[u8], least: u64, most: u64) -> Option<u64>
-    ensures { result ≡ number_in least most digits.now }
-{
-    let mut number = 0u64;
-    for digit in digits {
-        if !digit.is_ascii_digit() {
-            return None;
-        }
-        number = number
-            .checked_mul(10)?
-            .checked_add(u64::from(*digit - b'0'))?;
-    }
-    if digits.is_empty() || number < least || number > most {
-        return None;
-    }
-    Some(number)
-}
 
 // Whether the worker stops too, by what follows the blank behind the step, if there is one.
 fn read_worker(rest: Option<&[u8]>) -> Option<bool>

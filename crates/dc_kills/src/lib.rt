@@ -5,7 +5,7 @@
 #![tactic(auto)]
 
 mod entries;
-mod lines;
+mod parts;
 mod plan;
 mod stop;
 

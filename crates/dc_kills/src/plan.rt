@@ -10,7 +10,7 @@ ghost use Rattle.dc_kills.specs.declared.plan.PlanError.TheVariants.{Memory};
 
 use crate::Stop;
 use crate::entries::read_entry;
-use crate::lines::first_line;
+use dc_path::first_line;
 use std::alloc::Global;
 use std::collections::BTreeMap;
 use std::marker::Model;

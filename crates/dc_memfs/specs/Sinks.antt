@@ -15,8 +15,8 @@ is_due None number = false
 is_due (Some first) number = nat_le first number
 
 -- the next write fails: it is to fail, or the bytes of both are more than 1,048,576
-abbrev pub fails_next : List ℕ → Taking → Bool
-fails_next piece s = is_due s.fail_at (raised s.writes) || nat_lt 1048576 (length s.taken + length piece)
+abbrev pub write_fails : List ℕ → Taking → Bool
+write_fails piece s = is_due s.fail_at (raised s.writes) || nat_lt 1048576 (length s.taken + length piece)
 
 -- after a write that took the piece
 abbrev pub with_piece : List ℕ → Taking → Taking

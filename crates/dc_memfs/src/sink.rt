@@ -3,7 +3,7 @@
 
 ghost use Rattle.std.specs.Prelude.{◌≡◌, false, [], Some, IfOk, IsTrue, OnOk, OnErr};
 ghost use Rattle.dc_fs.specs.Causes.{HasCause};
-ghost use Rattle.dc_memfs.specs.Sinks.{is_due, fails_next, with_piece, with_fault};
+ghost use Rattle.dc_memfs.specs.Sinks.{is_due, write_fails, with_piece, with_fault};
 
 use dc_fs::{Sink, SinkFault};
 use dc_path::OutOfMemory;
@@ -77,8 +77,8 @@ impl Sink for MemSink {
     fn write(&mut self, piece: &[u8]) -> Result<(), SinkFault>
         ensures taken { OnOk result (self.new ≡ with_piece piece.now self.old) }
         ensures stopped { OnErr result (self.new ≡ with_fault self.old) }
-        ensures ok { OnOk result (fails_next piece.now self.old ≡ false) }
-        ensures err { OnErr result (IsTrue (fails_next piece.now self.old)) }
+        ensures ok { OnOk result (write_fails piece.now self.old ≡ false) }
+        ensures err { OnErr result (IsTrue (write_fails piece.now self.old)) }
         ensures cause { HasCause self.old.faults self.new.faults result (record {}) }
     {
         self.writes = self.writes.saturating_add(1);

@@ -1,4 +1,3 @@
-pub mod NumberLemmas
 pub mod WordLemmas
 pub mod LookLemmas
 pub mod WithinLemmas

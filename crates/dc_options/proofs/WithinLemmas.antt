@@ -1,13 +1,10 @@
 -- What options are set to is within the limits of options.
-use Rattle.std.proofs.Common.{◌≡◌, ◌≤◌, ℕ, Bool, true, false, cond, ◌&&◌, not, List, [], ◌∷◌, length, nat_le, nat_lt, Option, Some, None, IfSome, unwrap_or, refl, sym, ap, subst, ◌∙◌, arith, codes}
-use Rattle.std.proofs.lemmas.Bool.{leb-true}
-use Rattle.std.specs.Char.{is_ascii_digit}
-use Rattle.std.specs.List.{list_all}
-use Rattle.std.specs.Str.Parse.{digits_value}
+use Rattle.std.proofs.Common.{◌≡◌, ◌≤◌, ℕ, Bool, true, false, cond, ◌&&◌, not, List, [], ◌∷◌, length, nat_le, Option, Some, None, IfSome, unwrap_or, refl, sym, ap, subst, ◌∙◌, arith, codes}
 use Rattle.dc_path.specs.Names.{is_name, same_name}
 use Rattle.dc_path.specs.Paths.{Names}
+use Rattle.dc_path.proofs.NumberLemmas.{number_in-between}
 use Rattle.dc_options.specs.Table.{needs_of}
-use Rattle.dc_options.specs.Values.{number_in, is_snapshot, first}
+use Rattle.dc_options.specs.Values.{is_snapshot, first}
 use Rattle.dc_options.specs.Words.{Head}
 use Rattle.dc_options.specs.Settings.{settings_with, IsWithin, number_or, number_by, values_of, names_in, sync_in, are_short}
 use Rattle.dc_options.specs.declared.table.Flag.{Flag}
@@ -18,19 +15,6 @@ use Rattle.dc_options.specs.declared.table.Needs.TheVariants as needs
 -- ---- numbers
 abbrev IsBetween : ℕ → ℕ → ℕ → Type 0
 IsBetween least most n = (least ≤ n) × (n ≤ most)
-
-bounded : (a b p q : Bool) (least most n : ℕ) → (p ≡ true → least ≤ n) → (q ≡ true → n ≤ most) → IfSome (cond (a && b && p && q) (Some n) None) (IsBetween least most)
-bounded false b p q least most n h k = tt
-bounded true false p q least most n h k = tt
-bounded true true false q least most n h k = tt
-bounded true true true false least most n h k = tt
-bounded true true true true least most n h k = (h refl, k refl)
-
-number_in-between : (least most : ℕ) (text : List ℕ) → IfSome (number_in least most text) (IsBetween least most)
-unfolding number_in
-number_in-between least most text =
-    bounded (list_all is_ascii_digit text) (nat_lt 0 (length text)) (nat_le least (digits_value 10 text)) (nat_le (digits_value 10 text) most) least most (digits_value 10 text)
-    (leb-true least (digits_value 10 text)) (leb-true (digits_value 10 text) most)
 
 or_other : (o : Option ℕ) (other least most : ℕ) → IfSome o (IsBetween least most) → IsBetween least most other → IsBetween least most (unwrap_or o other)
 or_other None other least most h k = k

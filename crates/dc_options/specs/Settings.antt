@@ -1,5 +1,6 @@
 -- What options are set to: the value of an option's word, or the default (Hadoop DistCp Guide, "Command Line Options").
 use Rattle.std.specs.Prelude.{ℕ, ◌-◌, ◌≤◌, Bool, true, ◌&&◌, IsTrue, List, [], ◌∷◌, length, take, codes, nat_le, get_or, Option, Some, None, Result, Ok, Err, unwrap_or, if◌then◌else◌}
+use Rattle.dc_path.specs.Numbers.{number_in}
 use Rattle.dc_path.specs.Names.{same_name}
 use Rattle.std.specs.Result.{result_ok}
 use Rattle.dc_path.specs.Paths.{Names}
@@ -7,7 +8,7 @@ use Rattle.dc_path.specs.Reading.{path_from}
 use Rattle.dc_attrs.specs.Keeping.{Kept, kept_by, read_letters}
 use Rattle.dc_attrs.specs.declared.keeping.KeepError.{KeepError}
 use Rattle.dc_options.specs.Table.{is_among, needs_of}
-use Rattle.dc_options.specs.Values.{number_in, is_snapshot, letters_of, first}
+use Rattle.dc_options.specs.Values.{is_snapshot, letters_of, first}
 use Rattle.dc_options.specs.Words.{Head, given, paths, head_of}
 use Rattle.dc_options.specs.declared.table.Flag.{Flag}
 use Rattle.dc_options.specs.declared.table.Flag.TheVariants as flag

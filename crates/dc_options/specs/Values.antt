@@ -1,10 +1,9 @@
 -- What the values of options must be (the forms and limits are this project's own).
-use Rattle.std.specs.Prelude.{ℕ, Bool, not, ◌&&◌, ◌||◌, List, [], ◌∷◌, length, drop, codes, nat_eq, nat_lt, nat_le, Option, Some, None, Result, Ok, Err, if◌then◌else◌}
-use Rattle.std.specs.Char.{is_ascii_digit}
-use Rattle.std.specs.List.{list_all, starts_with}
+use Rattle.std.specs.Prelude.{ℕ, Bool, not, ◌&&◌, ◌||◌, List, [], ◌∷◌, length, drop, codes, nat_eq, nat_le, Option, Some, None, Result, Ok, Err, if◌then◌else◌}
+use Rattle.std.specs.List.{starts_with}
 use Rattle.std.specs.Option.{is_some}
-use Rattle.std.specs.Str.Parse.{digits_value}
 use Rattle.dc_path.specs.Names.{is_name, same_name}
+use Rattle.dc_path.specs.Numbers.{number_in}
 use Rattle.dc_path.specs.Paths.{Names}
 use Rattle.dc_path.specs.Reading.{path_from}
 use Rattle.dc_path.specs.declared.path.PathError.{PathError}
@@ -15,12 +14,6 @@ use Rattle.dc_options.specs.declared.table.Needs.{Needs}
 use Rattle.dc_options.specs.declared.table.Needs.TheVariants as needs
 use Rattle.dc_options.specs.declared.errors.OptionError.{OptionError}
 use Rattle.dc_options.specs.declared.errors.OptionError.TheVariants as error
-
--- the number that decimal digits write, where it is within the bounds
-unfoldable pub number_in : ℕ → ℕ → List ℕ → Option ℕ
-number_in least most text =
-    if list_all is_ascii_digit text && nat_lt 0 (length text) && nat_le least (digits_value 10 text) && nat_le (digits_value 10 text) most
-    then Some (digits_value 10 text) else None
 
 -- the name of a snapshot (HDFS Snapshots, "Snapshot Paths"): a short name that a folder of snapshots does not use otherwise
 unfoldable pub is_snapshot : List ℕ → Bool

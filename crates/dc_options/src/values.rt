@@ -2,15 +2,14 @@
 #![tactic(auto)]
 
 ghost use Rattle.std.specs.Prelude.{◌≡◌, ◌≤◌, ◌&&◌, cond, drop, length, IfSome, IfOk, Some, None, if◌then◌else◌};
-ghost use Rattle.std.specs.List.{list_all};
 ghost use Rattle.std.specs.Option.{is_some};
 ghost use Rattle.std.specs.Result.{result_ok};
-ghost use Rattle.std.specs.Char.{is_ascii_digit};
 ghost use Rattle.dc_path.specs.Unless.{GivesUnless};
+ghost use Rattle.dc_path.specs.Numbers.{number_in};
 ghost use Rattle.dc_path.specs.Reading.{path_from};
 ghost use Rattle.dc_attrs.specs.Keeping.{read_letters};
 ghost use Rattle.dc_options.specs.Table.{count_of};
-ghost use Rattle.dc_options.specs.Values.{number_in, is_snapshot, is_strategy, letters_of, refused_letters, refused_path, refused_value};
+ghost use Rattle.dc_options.specs.Values.{is_snapshot, is_strategy, letters_of, refused_letters, refused_path, refused_value};
 ghost use Rattle.dc_options.specs.Reading.{unless};
 ghost use Rattle.dc_options.specs.declared.errors.OptionError.TheVariants.{Memory, BadNumber, BadSnapshot, BadStrategy};
 
@@ -23,32 +22,12 @@ use std::alloc::Global;
 /// The most bytes that the name of a snapshot may have here.
 const MAX_SNAPSHOT: usize = 252;
 
-// Whether all bytes are decimal digits.
-fn are_digits(bytes: &[u8]) -> bool
-    ensures { result ≡ list_all is_ascii_digit bytes.now }
-{
-    bytes.iter().all(|byte| byte.is_ascii_digit())
-}
-
-// The number of 32 bits that decimal digits write.
-fn read_digits(text: &str) -> Option<u32>
-    ensures { result ≡ number_in 0 4294967295 text.now }
-{
-    if !are_digits(text.as_bytes()) {
-        return None;
-    }
-    text.parse().ok()
-}
-
 /// The number within two bounds, both included, that decimal digits write. Leading zeros are allowed, signs are not.
 pub fn read_number(text: &str, least: u32, most: u32) -> Option<u32>
-    ensures value { result ≡ number_in least most text.now }
-    ensures range { IfSome result (λ n. (least ≤ n) × (n ≤ most)) }
+    ensures { result ≡ number_in least most text.now }
 {
-    match read_digits(text) {
-        Some(number) if least <= number && number <= most => Some(number),
-        _ => None,
-    }
+    let number = dc_path::read_number(text.as_bytes(), u64::from(least), u64::from(most))?;
+    Some(number as u32)
 }
 
 /// The path that a text reads as; `None` where it is none. `OutOfMemory` is the one error.

@@ -6,3 +6,5 @@ pub mod Joins
 pub mod Scanning
 pub mod LawProofs
 pub mod Texts
+pub mod LineLemmas
+pub mod NumberLemmas

@@ -7,3 +7,6 @@ pub mod Found
 pub mod Unless
 pub mod Reading
 pub mod Laws
+pub mod Lines
+pub mod Numbers
+pub mod Causes

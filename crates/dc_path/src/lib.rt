@@ -1,4 +1,4 @@
-//! Names and paths of the items of a tree, and owned texts and lists.
+//! Names and paths of the items of a tree, owned texts and lists, and the lines and numbers of texts.
 //!
 //! A `Name` is a filename and a `Path` a list of names, both within fixed limits (POSIX.1, "Filename"
 //! and "Pathname", without `.`, `..` and symbolic links). `Text` and `List` own their content and take
@@ -7,14 +7,18 @@
 #![tactic(auto)]
 
 pub mod laws;
+mod lines;
 mod list;
 mod name;
+mod numbers;
 mod path;
 mod text;
 
+pub use lines::first_line;
 pub use list::List;
 pub use name::Name;
 pub(crate) use name::test_name;
+pub use numbers::read_number;
 pub use path::{MAX_BYTES, MAX_NAMES, Path, PathError};
 use std::alloc::{AllocError, AllocFailed};
 pub use text::Text;

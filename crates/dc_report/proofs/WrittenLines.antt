@@ -1,9 +1,10 @@
 -- What is written has the lines of its entries, and is read as them.
-use Rattle.std.proofs.Common.{◌≡◌, ℕ, ◌==◌, Bool, true, false, cond, not, ◌&&◌, ◌||◌, List, [], ◌∷◌, ◌++◌, map, Option, Some, None, Result, Ok, Err, IfOk, refl, sym, ap, ap₂, ◌∙◌, arith, append_assoc, append-nil}
-use Rattle.std.specs.List.{list_any, flat_map, find, All}
+use Rattle.std.proofs.Common.{◌≡◌, ℕ, ◌<◌, nat_eq, codes, Bool, true, false, cond, not, ◌&&◌, ◌||◌, List, [], ◌∷◌, ◌++◌, length, map, Option, Some, None, Result, Ok, Err, IfOk, refl, sym, ap, ap₂, ◌∙◌, arith, append_assoc, append-nil}
+use Rattle.std.specs.List.{list_any, flat_map, find, starts_with, ends_with, All}
+use Rattle.std.specs.Str.{is_utf8}
 use Rattle.std.proofs.lemmas.List.Folds.{list_any-append}
 use Rattle.std.proofs.lemmas.List.Elements.{All-nil, All-cons}
-use Rattle.std.proofs.lemmas.List.Splits.{slice_split_none, slice_split_at}
+use Rattle.dc_path.specs.Lines.{lines_of}
 use Rattle.dc_path.specs.Paths.{Names, joined, dotted_of}
 use Rattle.dc_path.specs.Unless.{GivesUnless}
 use Rattle.dc_report.specs.declared.entries.Entry.{Entry}
@@ -11,17 +12,14 @@ use Rattle.dc_report.specs.declared.entries.Entry.TheVariants.{Deleted, Renamed,
 use Rattle.dc_report.specs.declared.report.ReportError.TheVariants.{BadHead}
 use Rattle.dc_report.specs.declared.writing.WriteReportError.{WriteReportError}
 use Rattle.dc_report.specs.declared.writing.WriteReportError.TheVariants.{Memory, BadHead as WriteBadHead}
-use Rattle.dc_report.specs.Lines.{onto_unended, unended, lines_in, lines_of}
+use Rattle.dc_report.specs.Lines.{onto_unended, unended}
 use Rattle.dc_report.specs.Grammar.{is_heading}
 use Rattle.dc_report.specs.Reports.{entries_from, headed, report_from}
 use Rattle.dc_report.specs.Told.{AreTold}
 use Rattle.dc_report.specs.Writing.{is_break, is_ambiguous, has_ambiguous, line_of, lines_with_feeds, paths_of, first_ambiguous, unless_ambiguous, is_heading_line, written}
+use Rattle.dc_path.proofs.LineLemmas.{is_feed, line_first, line_alone}
 use Rattle.dc_report.proofs.LineLemmas.{unended-feed}
 use Rattle.dc_report.proofs.ReadBack.{lines_are_read}
-
--- a line feed
-abbrev is_feed : ℕ → Bool
-is_feed b = b == 10
 
 -- ---- no line feed
 neither : (a b : Bool) → (a || b) ≡ false → (a ≡ false) × (b ≡ false)
@@ -117,23 +115,39 @@ clear_All : (xs : List ℕ) → list_any is_feed xs ≡ false → All (λ b. is_
 clear_All [] h = All-nil (λ b. is_feed b ≡ false)
 clear_All (x ∷ xs) h = let parts = neither (is_feed x) (list_any is_feed xs) h in All-cons (λ b. is_feed b ≡ false) x xs parts.0 (clear_All xs parts.1)
 
-all_lines : (first : List ℕ) (entries : List Entry) → list_any is_feed first ≡ false → first_ambiguous entries ≡ None → lines_in (first ++ behind_feeds entries) ≡ first ∷ map line_of entries
-all_lines first [] h n = ap lines_in (append-nil first) ∙ slice_split_none is_feed first (clear_All first h)
-all_lines first (e ∷ entries) h n =
-    let parts = find_parts (paths_of e) (flat_map paths_of entries) n in
-    slice_split_at is_feed first 10 (line_of e ++ behind_feeds entries) (clear_All first h) refl
-    ∙ ap (λ (ls : List (List ℕ)). first ∷ ls) (all_lines (line_of e) entries (line_clear e parts.0) parts.1)
+line_filled : (e : Entry) → 0 < length (line_of e)
+line_filled (Created p) = omega arith
+line_filled (Deleted p) = omega arith
+line_filled (Modified p) = omega arith
+line_filled (Renamed a b) = omega arith
 
-written_lines : (heading : List ℕ) (entries : List Entry) → list_any is_feed heading ≡ false → first_ambiguous entries ≡ None
-    → lines_of (heading ++ 10 ∷ lines_with_feeds entries) ≡ heading ∷ map line_of entries
-written_lines heading entries k n =
-    ap lines_of (feeds_move heading entries)
-    ∙ ap lines_in (unended-feed (heading ++ behind_feeds entries) ∙ all_end heading entries (heading_only heading k) n)
-    ∙ all_lines heading entries k n
+all_lines : (first : List ℕ) (entries : List Entry) → 0 < length first → list_any is_feed first ≡ false → first_ambiguous entries ≡ None → lines_of (first ++ behind_feeds entries) ≡ first ∷ map line_of entries
+all_lines first [] f h n = ap lines_of (append-nil first) ∙ line_alone first f (clear_All first h)
+all_lines first (e ∷ entries) f h n =
+    let parts = find_parts (paths_of e) (flat_map paths_of entries) n in
+    line_first first (line_of e ++ behind_feeds entries) (clear_All first h)
+    ∙ ap (λ (ls : List (List ℕ)). first ∷ ls) (all_lines (line_of e) entries (line_filled e) (line_clear e parts.0) parts.1)
+
+written_lines : (heading : List ℕ) (entries : List Entry) → 0 < length heading → list_any is_feed heading ≡ false → first_ambiguous entries ≡ None
+    → lines_of (unended (heading ++ 10 ∷ lines_with_feeds entries)) ≡ heading ∷ map line_of entries
+written_lines heading entries f k n =
+    ap (λ (t : List ℕ). lines_of (unended t)) (feeds_move heading entries)
+    ∙ ap lines_of (unended-feed (heading ++ behind_feeds entries) ∙ all_end heading entries (heading_only heading k) n)
+    ∙ all_lines heading entries f k n
   where
     heading_only : (h : List ℕ) → list_any is_feed h ≡ false → unended h ≡ h
     heading_only [] c = refl
     heading_only (b ∷ h) c = ends_clear b h c
+
+-- a heading has bytes
+filled_at : (u : Bool) → (u && starts_with nat_eq [] (codes "Difference between ") && ends_with nat_eq [] (codes ":")) ≡ true → 0 < 0
+filled_at true h = absurd (cc)
+filled_at false h = absurd (cc)
+
+heading_filled : (heading : List ℕ) → is_heading heading ≡ true → 0 < length heading
+unfolding is_heading
+heading_filled [] h = filled_at (is_utf8 []) h
+heading_filled (b ∷ heading) h = omega arith
 
 -- ---- what is written is read
 both_so : (a b : Bool) → (a && not b) ≡ true → (a ≡ true) × (b ≡ false)
@@ -144,7 +158,7 @@ both_so false b h = absurd (cc)
 module _ (heading : List ℕ) (entries : List Entry) (t : AreTold [] entries) (text : List ℕ) where
   reads : is_heading heading ≡ true → list_any is_feed heading ≡ false → first_ambiguous entries ≡ None → report_from (heading ++ 10 ∷ lines_with_feeds entries) ≡ Ok entries
   reads h k n =
-      ap headed (written_lines heading entries k n)
+      ap headed (written_lines heading entries (heading_filled heading h) k n)
       ∙ ap (λ (b : Bool). cond b (entries_from 2 [] (map line_of entries)) (Err BadHead)) h
       ∙ lines_are_read 2 [] entries t
 

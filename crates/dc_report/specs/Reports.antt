@@ -1,12 +1,13 @@
 -- What a text tells as a report, or which line is refused.
 use Rattle.std.specs.Prelude.{ℕ, ◌+◌, Bool, false, List, [], ◌∷◌, ◌++◌, Option, Some, None, Result, Ok, Err, if◌then◌else◌}
 use Rattle.std.specs.List.{list_any}
+use Rattle.dc_path.specs.Lines.{lines_of}
 use Rattle.dc_path.specs.Paths.{Names, same_path}
 use Rattle.dc_report.specs.declared.entries.Entry.{Entry}
 use Rattle.dc_report.specs.declared.entries.Entry.TheVariants.{Deleted, Renamed, Created, Modified}
 use Rattle.dc_report.specs.declared.report.ReportError.{ReportError}
 use Rattle.dc_report.specs.declared.report.ReportError.TheVariants.{BadHead, BadLine, DoubleLine, DoubleSource, DoubleTarget}
-use Rattle.dc_report.specs.Lines.{lines_of}
+use Rattle.dc_report.specs.Lines.{unended}
 use Rattle.dc_report.specs.Grammar.{entry_from, is_heading}
 
 -- ---- which paths entries name
@@ -70,6 +71,6 @@ abbrev pub headed : List (List ℕ) → Result (List Entry) ReportError
 headed [] = Err BadHead
 headed (heading ∷ lines) = if is_heading heading then entries_from 2 [] lines else Err BadHead
 
--- the entries that a text tells, or why it is no report
+-- the entries that a text tells, or why it is no report; line feeds at its end are passed over
 abbrev pub report_from : List ℕ → Result (List Entry) ReportError
-report_from text = headed (lines_of text)
+report_from text = headed (lines_of (unended text))

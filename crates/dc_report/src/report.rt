@@ -2,13 +2,12 @@
 #![tactic(auto)]
 
 ghost use Rattle.std.specs.Prelude.{◌≡◌, ◌≢◌, [], ◌∷◌, ◌++◌, ◌+◌, ◌<◌, ◌^◌, List as Items, Some, Ok, IfOk, IfErr, OnOk};
-ghost use Rattle.std.specs.Option.{option_copied};
+ghost use Rattle.dc_path.specs.Lines.{lines_of};
 ghost use Rattle.dc_path.specs.Unless.{GivesUnless};
 ghost use Rattle.dc_report.specs.declared.report.ReportError.TheVariants.{Memory};
 ghost use Rattle.dc_report.specs.declared.writing.WriteReportError.TheVariants.{Memory as Full};
 ghost use Rattle.dc_report.specs.Told.{AreTold};
 ghost use Rattle.dc_report.specs.Writing.{written};
-ghost use Rattle.dc_report.specs.Lines.{lines_behind, weight};
 ghost use Rattle.dc_report.specs.Grammar.{entry_from};
 ghost use Rattle.dc_report.specs.Known.{Knows};
 ghost use Rattle.dc_report.specs.Reports.{with_spelt, entries_from, report_from};
@@ -16,9 +15,9 @@ ghost use Rattle.dc_report.specs.Reports.{with_spelt, entries_from, report_from}
 use crate::Entry;
 use crate::grammar::{is_heading, read_entry};
 use crate::known::Known;
-use crate::lines::{first_line, without_end};
+use crate::lines::without_end;
 use crate::writing::{WriteReportError, write_entries};
-use dc_path::{List, OutOfMemory, Text};
+use dc_path::{List, OutOfMemory, Text, first_line};
 use std::alloc::Global;
 use std::marker::Model;
 
@@ -89,16 +88,15 @@ fn add_line(
 }
 
 // The entries of the lines from the second on.
-fn read_lines(alloc: Global, lines: Option<&[u8]>) -> Result<List<Entry>, ReportError>
-    requires { weight (option_copied lines) + 2 < 2 ^ 64 }
-    ensures { GivesUnless Memory result (entries_from 2 [] (lines_behind (option_copied lines.entry))) }
+fn read_lines(alloc: Global, lines: &[u8]) -> Result<List<Entry>, ReportError>
+    ensures { GivesUnless Memory result (entries_from 2 [] (lines_of lines.now)) }
 {
     let mut known = Known::new(alloc);
     let mut entries = List::new(alloc);
     let mut line = 2u64;
     let mut rest = lines;
-    while let Some(text) = rest {
-        let (first, others) = first_line(text);
+    while !rest.is_empty() {
+        let (first, others) = first_line(rest);
         add_line(alloc, &mut known, &mut entries, line, first)?;
         line += 1;
         rest = others;
@@ -129,7 +127,11 @@ impl Report {
     pub fn read(alloc: Global, text: &[u8]) -> Result<Report, ReportError>
         ensures { GivesUnless Memory result (report_from text.now) }
     {
-        let (heading, lines) = first_line(without_end(text));
+        let text = without_end(text);
+        if text.is_empty() {
+            return Err(ReportError::BadHead);
+        }
+        let (heading, lines) = first_line(text);
         if !is_heading(heading) {
             return Err(ReportError::BadHead);
         }

@@ -1,18 +1,18 @@
 -- What the words of the command line ask for.
-use Rattle.std.specs.Prelude.{ℕ, ◌^◌, List, [], ◌∷◌, codes, Option, Some, None, nat_lt, if◌then◌else◌}
+use Rattle.std.specs.Prelude.{ℕ, ◌^◌, ◌-◌, List, [], ◌∷◌, codes, Option, Some, None, if◌then◌else◌}
 use Rattle.dc_path.specs.Names.{same_name}
-use Rattle.dc_cli.specs.Drills.{number_from}
+use Rattle.dc_path.specs.Numbers.{number_in}
 use Rattle.distcp.specs.declared.words.Job.{Job}
 use Rattle.distcp.specs.declared.words.Job.TheVariants.{Help, Version, Drill, BadDrill, Unbuilt}
 
--- a drill of two numbers, of which the count is one of 32 bits
+-- a drill of two numbers
 abbrev pub drill_by : Option ℕ → Option ℕ → Job
-drill_by (Some seed) (Some count) = if nat_lt count (2 ^ 32) then Drill seed count else BadDrill
+drill_by (Some seed) (Some count) = Drill seed count
 drill_by seed count = BadDrill
 
--- the words after `drill`: a seed and a count
+-- the words after `drill`: a seed of 64 bits and a count of 32
 abbrev pub drill_of : List (List ℕ) → Job
-drill_of (seed ∷ count ∷ []) = drill_by (number_from seed) (number_from count)
+drill_of (seed ∷ count ∷ []) = drill_by (number_in 0 (2 ^ 64 - 1) seed) (number_in 0 (2 ^ 32 - 1) count)
 drill_of words = BadDrill
 
 -- a word that stands alone

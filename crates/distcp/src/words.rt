@@ -4,7 +4,7 @@
 ghost use Rattle.std.specs.Prelude.{◌≡◌, map, string_bytes};
 ghost use Rattle.distcp.specs.Jobs.{drill_of, job_of};
 
-use dc_cli::read_number;
+use dc_path::read_number;
 
 /// What the program is asked to do.
 #[derive(Clone, Copy, Debug, PartialEq, Eq)]
@@ -28,12 +28,14 @@ fn read_drill(words: &[String]) -> Job
     let [seed, count] = words else {
         return Job::BadDrill;
     };
-    let (Some(seed), Some(count)) = (read_number(seed.as_str()), read_number(count.as_str())) else {
-        return Job::BadDrill;
-    };
-    match u32::try_from(count) {
-        Ok(count) => Job::Drill { seed, count },
-        Err(_) => Job::BadDrill,
+    let seed = read_number(seed.as_str().as_bytes(), 0, u64::MAX);
+    let count = read_number(count.as_str().as_bytes(), 0, u64::from(u32::MAX));
+    match (seed, count) {
+        (Some(seed), Some(count)) => Job::Drill {
+            seed,
+            count: count as u32,
+        },
+        _ => Job::BadDrill,
     }
 }
 

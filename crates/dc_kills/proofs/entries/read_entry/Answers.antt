@@ -1,7 +1,7 @@
 -- What is missing makes a line of no such form, and else the parts make its entry.
 use Rattle.std.proofs.Common.{◌≡◌, ◌∷◌, [], sym, ap, ◌∙◌, refl}
 use Rattle.std.specs.Option.{option_copied}
-use Rattle.dc_kills.specs.Lines.{parts_of, parts_behind}
+use Rattle.dc_kills.specs.Parts.{parts_of, parts_behind}
 use Rattle.dc_kills.proofs.EntryLemmas.{line_of_one, line_of_two, line_of_more, no_attempt, no_step, no_worker, entry_is}
 use Rattle.dc_kills.proofs.entries.read_entry.Goals as goal
 
@@ -49,7 +49,7 @@ returns-in_err-piece c =
     let step = c.first_part-3.result.0.now in
     let behind = option_copied c.first_part-3.result.1 in
     let spelt = line_of_more line piece rest attempt others step behind first second c.first_part-3.ensures in
-    let none = entry_is (sym c.read_number.ensures ∙ c.in_err-piece.was) refl refl refl in
+    let none = entry_is (sym c.read_number.ensures.value ∙ c.in_err-piece.was) refl refl refl in
     c.from_residual-in_err-piece.ensures ∙ sym (spelt ∙ none)
 
 pub returns-in_err-attempt : goal.returns-in_err-attempt
@@ -64,7 +64,7 @@ returns-in_err-attempt c =
     let step = c.first_part-3.result.0.now in
     let behind = option_copied c.first_part-3.result.1 in
     let spelt = line_of_more line piece rest attempt others step behind first second c.first_part-3.ensures in
-    let none = entry_is refl (sym c.read_number-2.ensures ∙ c.in_err-attempt.was) refl refl in
+    let none = entry_is refl (sym c.read_number-2.ensures.value ∙ c.in_err-attempt.was) refl refl in
     c.from_residual-in_err-attempt.ensures ∙ sym (spelt ∙ none ∙ no_attempt _ _ _)
 
 pub returns-in_err-step : goal.returns-in_err-step
@@ -79,7 +79,7 @@ returns-in_err-step c =
     let step = c.first_part-3.result.0.now in
     let behind = option_copied c.first_part-3.result.1 in
     let spelt = line_of_more line piece rest attempt others step behind first second c.first_part-3.ensures in
-    let none = entry_is refl refl (sym c.read_number-3.ensures ∙ c.in_err-step.was) refl in
+    let none = entry_is refl refl (sym c.read_number-3.ensures.value ∙ c.in_err-step.was) refl in
     c.from_residual-in_err-step.ensures ∙ sym (spelt ∙ none ∙ no_step _ _ _)
 
 pub returns : goal.returns
@@ -97,8 +97,8 @@ returns c =
     sym (
     spelt
     ∙ entry_is
-    (sym c.read_number.ensures ∙ c.in_ok-piece.was)
-    (sym c.read_number-2.ensures ∙ c.in_ok-attempt.was)
-    (sym c.read_number-3.ensures ∙ c.in_ok-step.was)
+    (sym c.read_number.ensures.value ∙ c.in_ok-piece.was)
+    (sym c.read_number-2.ensures.value ∙ c.in_ok-attempt.was)
+    (sym c.read_number-3.ensures.value ∙ c.in_ok-step.was)
     (sym c.read_worker.ensures ∙ c.in_ok-worker_too.was)
     )

@@ -2,7 +2,7 @@
 use Rattle.std.proofs.Common.{◌≡◌, true, false, nat_eq, codes, ◌∷◌, sym, ◌∙◌, ap, rules}
 use Rattle.std.specs.Option.{is_some, option_copied}
 use Rattle.std.specs.Cmp.Lexicographic.{pointwise}
-use Rattle.dc_kills.specs.Lines.{parts_behind}
+use Rattle.dc_kills.specs.Parts.{parts_behind}
 use Rattle.dc_kills.specs.Entries.{worker_from}
 use Rattle.dc_kills.proofs.EntryLemmas.{no_worker_behind, no_worker_alone}
 use Rattle.dc_kills.proofs.entries.read_worker.Goals as goal

@@ -1,9 +1,13 @@
 -- Counts that show a cause: of 64 bits, standing still at the last value.
 use Rattle.std.specs.Prelude.{ℕ, ◌+◌, ◌-◌, ◌^◌, ◌≤◌, min}
 
+-- the sum of two counts, which stops at the last value
+abbrev pub counted : ℕ → ℕ → ℕ
+counted before more = min (before + more) (2 ^ 64 - 1)
+
 -- a count after one more
 abbrev pub raised : ℕ → ℕ
-raised before = min (before + 1) (2 ^ 64 - 1)
+raised before = counted before 1
 
 -- a count that rose, or stands at its last value
 abbrev pub Rose : ℕ → ℕ → Type 0
