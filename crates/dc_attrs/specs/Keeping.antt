@@ -1,7 +1,9 @@
 -- Which attributes a copy keeps, by letters (Hadoop DistCp Guide, `-p`), and what attributes become then.
-use Rattle.std.specs.Prelude.{ℕ, Bool, false, cond, ◌||◌, not, List, codes, nat_eq, Option, Some, None, Result, Ok, Err, position, if◌then◌else◌}
+use Rattle.std.specs.Prelude.{ℕ, Bool, false, cond, ◌&&◌, ◌||◌, not, List, codes, nat_eq, Option, Some, None, Result, Ok, Err, position, if◌then◌else◌}
 use Rattle.std.specs.List.{list_any}
+use Rattle.std.specs.Cmp.Lexicographic.{pointwise}
 use Rattle.dc_attrs.specs.Attributes.{Attributes}
+use Rattle.dc_attrs.specs.declared.attributes.Xattr.{Xattr}
 use Rattle.dc_attrs.specs.declared.keeping.KeepError.{KeepError}
 use Rattle.dc_attrs.specs.declared.keeping.KeepError.TheVariants.{UnknownLetter}
 
@@ -71,3 +73,19 @@ overlay keep source onto =
       xattrs = (from keep.xattrs).xattrs;
       mtime = (from keep.mtime).mtime;
     }
+
+-- two extended attributes with the same name and the same value
+abbrev pub same_xattr : Xattr → Xattr → Bool
+same_xattr x y = pointwise nat_eq x.name y.name && pointwise nat_eq x.value y.value
+
+-- two attributes have the same values where they are kept
+unfoldable pub same_kept : Kept → Attributes → Attributes → Bool
+same_kept keep a b =
+    (not keep.replication || nat_eq a.replication b.replication)
+    && (not keep.block_size || nat_eq a.block_size b.block_size)
+    && (not keep.user || pointwise nat_eq a.user b.user)
+    && (not keep.group || pointwise nat_eq a.group b.group)
+    && (not keep.mode || nat_eq a.mode b.mode)
+    && (not keep.acl || pointwise nat_eq a.acl b.acl)
+    && (not keep.xattrs || pointwise same_xattr a.xattrs b.xattrs)
+    && (not keep.mtime || nat_eq a.mtime b.mtime)

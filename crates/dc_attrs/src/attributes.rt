@@ -4,7 +4,7 @@
 ghost use Rattle.std.specs.Prelude.{◌≡◌, ◌≤◌, List as Items, length, IfOk, Ok, Err, not, take, map, cond};
 ghost use Rattle.dc_attrs.specs.Limits.{bad_field, checked, is_xattr, rises, are_xattrs, name_of};
 ghost use Rattle.dc_attrs.specs.Attributes.{Attributes, default_file, default_dir, fits_file, fits_dir};
-ghost use Rattle.dc_attrs.specs.Keeping.{overlay, keeps};
+ghost use Rattle.dc_attrs.specs.Keeping.{overlay, keeps, same_kept};
 
 use crate::Keep;
 use dc_path::{List, OutOfMemory, Text};
@@ -18,6 +18,20 @@ pub struct Xattr {
     pub name: Text,
     /// The value, at most 4,096 bytes where it stands in an `Attrs`.
     pub value: Text,
+}
+
+impl PartialEq for Xattr {
+    ghost use Rattle.std.proofs.Common.{rules};
+    ghost use Rattle.std.specs.Cmp.Rules.{comparing};
+    ghost use Rattle.dc_attrs.specs.Keeping.{same_xattr};
+
+    ghost eq = { same_xattr };
+
+    ghost laws = { Prim.search (comparing, rules) };
+
+    fn eq(&self, other: &Xattr) -> bool {
+        self.name.as_str() == other.name.as_str() && self.value.as_str() == other.value.as_str()
+    }
 }
 
 /// A field of `Attrs` that has a limit.
@@ -250,4 +264,19 @@ pub fn overlay(
         xattrs,
         mtime: giver(keep, 't', source, onto).mtime,
     })
+}
+
+/// Whether two attributes have the same values at the kept letters.
+#[tactic(auto, unfolding(crate::specs::Keeping::same_kept, crate::specs::Keeping::keeps))]
+pub fn same_kept(keep: &Keep, one: &Attrs, other: &Attrs) -> bool
+    ensures { result ≡ same_kept keep.now one.now other.now }
+{
+    (!keep.has('r') || one.replication == other.replication)
+        && (!keep.has('b') || one.block_size == other.block_size)
+        && (!keep.has('u') || one.user.as_str() == other.user.as_str())
+        && (!keep.has('g') || one.group.as_str() == other.group.as_str())
+        && (!keep.has('p') || one.mode == other.mode)
+        && (!keep.has('a') || one.acl.as_str() == other.acl.as_str())
+        && (!keep.has('x') || one.xattrs.as_slice() == other.xattrs.as_slice())
+        && (!keep.has('t') || one.mtime == other.mtime)
 }

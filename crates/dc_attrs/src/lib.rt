@@ -7,7 +7,7 @@ mod keeping;
 mod refusals;
 mod shown;
 
-pub use attributes::{Attrs, AttrsError, Field, Xattr, overlay};
+pub use attributes::{Attrs, AttrsError, Field, Xattr, overlay, same_kept};
 pub use keeping::{Keep, KeepError};
 pub use refusals::TreeError;
 pub use shown::Seen;

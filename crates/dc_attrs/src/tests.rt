@@ -1,6 +1,6 @@
 //! Sets of letters and what they keep, on values worked out by hand.
 
-use crate::{Attrs, Keep, KeepError, overlay};
+use crate::{Attrs, Keep, KeepError, overlay, same_kept};
 use dc_path::OutOfMemory;
 use std::alloc::{AllocError, Global};
 use std::test::Fail;
@@ -45,5 +45,21 @@ fn replication_is_laid_over(alloc: Global) -> Result<bool, OutOfMemory> {
 #[test]
 fn kept_values_are_laid_over_others(rt: HostRuntime) -> Result<(), Fail> {
     assert_eq!(rt; replication_is_laid_over(rt.alloc()), Ok(true));
+    Ok(())
+}
+
+// Whether a default file and a default directory are the same at these letters.
+fn are_same(alloc: Global, letters: &str) -> Option<bool> {
+    let keep = Keep::read(letters).ok()?;
+    let file = Attrs::default_file(alloc);
+    let dir = Attrs::default_dir(alloc);
+    Some(same_kept(&keep, &file, &dir))
+}
+
+#[test]
+fn kept_values_are_compared(rt: HostRuntime) -> Result<(), Fail> {
+    for (letters, same) in [("ugxt", true), ("r", false), ("tp", false), ("ub", false)] {
+        assert_eq!(rt; are_same(rt.alloc(), letters), Some(same));
+    }
     Ok(())
 }

@@ -189,6 +189,9 @@ module _ (old one two new : List Cell) (at c : ℕ) (name : List ℕ) (cell : Ce
   last : Nodes two c (node_of cell) new
   last = nodes_set two new c (cell_at two c) cell refl (λ x. ap (find x) bare ∙ sym (two_bare x)) put
 
+  pub adds_link : link new at name ≡ Some c
+  adds_link = ap (λ (g : ℕ → List ℕ → Option ℕ). g at name) last.links ∙ set.set.here
+
   nodes_are : node two ≡ node old
   nodes_are = set.nodes ∙ same_nodes old one same
 
@@ -229,3 +232,7 @@ popped_at slots i t u popped.Kept h e d = same_put slots i t u e d
 
 pub pops_child : (m n : BTreeMap (List ℕ) ℕ) (x : List ℕ) (c : ℕ) → find x m.entries ≡ Some c → UpdatesBy (slice_cmp nat_cmp) (slice_cmp nat_cmp x) m n None → Pops (GoneCell m.entries) (popped.Child c) (GoneCell n.entries)
 pops_child m n x c f u = (x, f, refl, record { node = refl; here = u.1; others = λ y apart. u.2 y (differ_at y x (name_case x y) apart) })
+
+pub length_cells : (slots : List Slot) → length (map cell_of slots) ≡ length slots
+length_cells [] = refl
+length_cells (s ∷ slots) = ap (λ n. suc n) (length_cells slots)

@@ -7,3 +7,9 @@ pub mod Steps
 pub mod Listing
 pub mod Valid
 pub mod FittingLemmas
+pub mod Homing
+pub mod Between
+pub mod Nexts
+pub mod Climbing
+pub mod Whole
+pub mod Under

@@ -12,7 +12,7 @@ use Rattle.dc_tree.specs.Fitting.{is_fitting}
 use Rattle.dc_tree.specs.Arena.{reach, IsForest}
 use Rattle.dc_tree.specs.Edits.{Relinked, Renoded}
 use Rattle.dc_path.proofs.PathLemmas.{path_decides, cut-append, append-cut, not_longer, Last, empty, ended, last_case, same_name-refl, name_decides, cut_more}
-use Rattle.dc_tree.proofs.Graph.{Link, one_path, reached_live, reach_next, reach_on, reach_off, reach_before, relinked, kept_below, forest_cut, forest_add, IsOrphan, cut_orphan, LinkCase, this, elsewhere, link_case, Spot, here, away, spot}
+use Rattle.dc_tree.proofs.Graph.{Link, one_path, reached_live, reach_next, reach_on, reach_off, reach_before, relinked, kept_below, forest_cut, forest_add, IsOrphan, cut_orphan, LinkCase, this, elsewhere, link_case, Spot, here, away, spot, was_link}
 
 abbrev pub graph_tree : Link → (ℕ → Option Node) → Tree
 graph_tree g n p = option_and_then n (reach g 0 p)
@@ -224,6 +224,12 @@ module _ (g l h : Link) (n : ℕ → Option Node) (pa : List (List ℕ)) (a : �
     here = w.second.others b y two_links ∙ w.first.here;
     others = λ k z apart. moved_other k z apart (link_case k z a x);
   }
+
+  pub moved_here : h b y ≡ Some c
+  moved_here = w.second.others b y two_links ∙ w.first.here
+
+  pub moved_rest : (k : ℕ) (z : List ℕ) (d : ℕ) → (k ≡ b → z ≡ y → ⊥) → h k z ≡ Some d → g k z ≡ Some d
+  moved_rest k z d apart e = sym (w.first.others k z apart) ∙ was_link l h a x w.second k z d e
 
   middle : IsForest (unlinked g a x) n
   middle = forest_cut g (unlinked g a x) n a x w.forest (unlinked_at g a x)

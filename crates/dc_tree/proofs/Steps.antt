@@ -12,14 +12,17 @@ use Rattle.dc_attrs.specs.Attributes.{fits_dir}
 use Rattle.dc_tree.specs.Arena.{Cell, DirCell, FileCell, cell_at, node_of, links_of, find, link, node, reach, tree_of, IsForest, IsArena, IsFileNode}
 use Rattle.dc_tree.specs.Places.{IsVacant, IsTaken, IsRoot}
 use Rattle.dc_tree.specs.Edits.{Adds, Nodes, Puts, Links, Relinked, Keeps}
-use Rattle.dc_tree.proofs.Graph.{Link, IsOrphan, cut_orphan, forest_cut, kept_below, reached_live}
-use Rattle.dc_tree.proofs.Ops.{graph_tree, IsMaking, forest_made, tree_made, forest_renode, tree_with, forest_gone, tree_gone, tree_cut, IsMoving, forest_moved, tree_moved, PathCase, path_case, same_paths, two_paths}
+use Rattle.dc_tree.proofs.Graph.{Link, IsOrphan, cut_orphan, forest_cut, kept_below, reached_live, was_link}
+use Rattle.dc_tree.proofs.Ops.{graph_tree, IsMaking, forest_made, tree_made, forest_renode, tree_with, forest_gone, tree_gone, tree_cut, IsMoving, forest_moved, tree_moved, PathCase, path_case, same_paths, two_paths, moved_here, moved_rest}
+use Rattle.dc_tree.specs.declared.homes.Home.{Home}
+use Rattle.dc_tree.specs.Homes.{home_at, AreHomes, Rehomed}
+use Rattle.dc_tree.proofs.Homing.{homes_set, homes_same}
 use Rattle.dc_tree.proofs.Cells.{nodes_set, link_is, node_is, same_links, same_nodes}
 use Rattle.dc_tree.proofs.Ways.{tree_of-is}
 
-pub on_either : {T E P Q G : Type 0} (r : Result T E) → OnOk r P → OnErr r Q → (P → G) → (Q → G) → G
-on_either (Ok x) p q f g = f p
-on_either (Err e) p q f g = g q
+pub on_either : {T E P Q R S G : Type 0} (r : Result T E) → OnOk r P → OnOk r Q → OnErr r R → OnErr r S → (P → Q → G) → (R → S → G) → G
+on_either (Ok x) p q r s f g = f p q
+on_either (Err e) p q r s f g = g r s
 
 pub some_of : (o : Option Node) → IsSome o → (v : Node) × (o ≡ Some v)
 some_of None h = cc
@@ -52,6 +55,9 @@ making old new p parent name v w e a fits =
 
 pub hung_arena : (old new : List Cell) (p : List (List ℕ)) (parent : ℕ) (name : List ℕ) (v : Node) → IsVacant old p parent → Some name ≡ slice_get p (length p - 1) → Adds old parent name (Some v) new → is_fitting (Some v) ≡ true → IsArena new
 hung_arena old new p parent name v w e a fits = forest_made (link old) (link new) (node old) (node new) (front_of p) parent w.under.name a.cell v (making old new p parent name v w e a fits)
+
+pub same_homes : (old new : List Cell) (was now : List (Option Home)) → cell_at new ≡ cell_at old → home_at now ≡ home_at was → AreHomes (link old) was → AreHomes (link new) now
+same_homes old new was now e s = homes_same (link old) (link new) was now (same_links old new e) s
 
 pub hung_tree : (old new : List Cell) (p : List (List ℕ)) (parent : ℕ) (name : List ℕ) (v : Node) → IsVacant old p parent → Some name ≡ slice_get p (length p - 1) → Adds old parent name (Some v) new → is_fitting (Some v) ≡ true → tree_of new ≡ with_node (tree_of old) p v
 hung_tree old new p parent name v w e a fits =
@@ -118,6 +124,9 @@ root_arena a h = record {
   fits = bare_fits a h;
 }
 
+pub root_leads_nowhere : {A : Type 0} (a : Attributes) (k : ℕ) (x : List ℕ) (c : ℕ) → link (DirCell a [] ∷ []) k x ≡ Some c → A
+root_leads_nowhere a k x c e = let n = bare_links a k x in cc
+
 root_at : (a : Attributes) (q : List (List ℕ)) → graph_tree (link (DirCell a [] ∷ [])) (node (DirCell a [] ∷ [])) q ≡ with_node (λ q. None) [] (Dir a) q
 root_at a [] = node_is (DirCell a [] ∷ []) 0 (DirCell a []) refl
 root_at a (x ∷ q) = ap (λ (o : Option ℕ). option_and_then (node (DirCell a [] ∷ [])) (option_and_then (λ k. reach (link (DirCell a [] ∷ [])) k q) o)) (bare_links a 0 x)
@@ -128,10 +137,10 @@ root_tree a = tree_of-is (DirCell a [] ∷ []) ∙ fun_ext (root_at a)
 -- a cell that was given up is drained
 
 pub keeps_same : (old new : List Cell) → new ≡ old → Keeps old new
-keeps_same old new e = record { arena = λ f. subst IsArena (sym e) f; tree = λ f. ap tree_of e }
+keeps_same old new e = record { fewer = λ k x c h. sym (ap (λ (cells : List Cell). link cells k x) e) ∙ h; arena = λ f. subst IsArena (sym e) f; tree = λ f. ap tree_of e }
 
 pub keeps_on : (old one new : List Cell) → Keeps old one → Keeps one new → Keeps old new
-keeps_on old one new k l = record { arena = λ f. l.arena (k.arena f); tree = λ f. l.tree (k.arena f) ∙ k.tree f }
+keeps_on old one new k l = record { fewer = λ i x c h. k.fewer i x c (l.fewer i x c h); arena = λ f. l.arena (k.arena f); tree = λ f. l.tree (k.arena f) ∙ k.tree f }
 
 module _ (old one : List Cell) (at : ℕ) (x : List ℕ) (c : ℕ) (held : link old at x ≡ Some c) (gone : node old at ≡ None) (l : Links old at x None one) where
   popped_arena : IsArena old → IsArena one
@@ -143,7 +152,7 @@ module _ (old one : List Cell) (at : ℕ) (x : List ℕ) (c : ℕ) (held : link 
       ∙ sym (tree_of-is old)
 
   pub keeps_popped : Keeps old one
-  keeps_popped = record { arena = popped_arena; tree = popped_tree }
+  keeps_popped = record { fewer = was_link (link old) (link one) at x l.set; arena = popped_arena; tree = popped_tree }
 
   pub popped_orphan : IsArena old → IsOrphan (link one) c
   popped_orphan f = cut_orphan (link old) (link one) (node old) at x c f l.set held
@@ -160,6 +169,7 @@ orphan_tree old new c o z n = tree_of-is new ∙ ap (λ (g : Link). graph_tree g
 
 pub keeps_dismissed : (old one two : List Cell) (at : ℕ) (x : List ℕ) (c : ℕ) → link old at x ≡ Some c → node old at ≡ None → Links old at x None one → Nodes one c None two → Keeps old two
 keeps_dismissed old one two at x c held gone l n = record {
+  fewer = λ k y d e. was_link (link old) (link one) at x l.set k y d (sym (ap (λ (g : Link). g k y) n.links) ∙ e);
   arena = λ f. orphan_arena one two c (popped_arena old one at x c held gone l f) (popped_orphan old one at x c held gone l f) (popped_not_root old one at x c held gone l f) n;
   tree = λ f. orphan_tree one two c (popped_orphan old one at x c held gone l f) (popped_not_root old one at x c held gone l f) n ∙ popped_tree old one at x c held gone l f;
 }
@@ -220,9 +230,12 @@ longer_tree old new at more p f r is k n =
 named : (old : List Cell) (p : List (List ℕ)) (parent child : ℕ) (name : List ℕ) (w : IsTaken old p parent child) → Some name ≡ slice_get p (length p - 1) → name ≡ w.under.name
 named old p parent child name w e = let same : Some name ≡ Some w.under.name = e ∙ w.under.last in cc
 
+pub taken_held : (old : List Cell) (p : List (List ℕ)) (parent child : ℕ) (name : List ℕ) (w : IsTaken old p parent child) → Some name ≡ slice_get p (length p - 1) → link old parent name ≡ Some child
+taken_held old p parent child name w e = ap (link old parent) (named old p parent child name w e) ∙ w.held
+
 module _ (old one two : List Cell) (p : List (List ℕ)) (parent child : ℕ) (name : List ℕ) (w : IsTaken old p parent child) (e : Some name ≡ slice_get p (length p - 1)) (l : Links old parent name None one) (n : Nodes one child None two) where
   held : link old parent name ≡ Some child
-  held = ap (link old parent) (named old p parent child name w e) ∙ w.held
+  held = taken_held old p parent child name w e
 
   cut_arena : IsArena one
   cut_arena = subst (λ (n : ℕ → Option Node). IsForest (link one) n) (sym l.nodes) (forest_cut (link old) (link one) (node old) parent name w.forest l.set)
@@ -276,6 +289,13 @@ module _ (old one two : List Cell) (p q : List (List ℕ)) (a c b : ℕ) (x y : 
 
   pub rehung_arena : IsArena two
   rehung_arena = subst (λ (n : ℕ → Option Node). IsForest (link two) n) (sym nodes) (forest_moved (link old) (link one) (link two) (node old) (front_of p) a x c (front_of q) b y moving)
+
+  pub rehung_homes : (was now : List (Option Home)) → AreHomes (link old) was → Rehomed was now c (record { parent = b; name = y }) → AreHomes (link two) now
+  rehung_homes was now h r =
+      let forest = forest_moved (link old) (link one) (link two) (node old) (front_of p) a x c (front_of q) b y moving in
+      let here = moved_here (link old) (link one) (link two) (node old) (front_of p) a x c (front_of q) b y moving in
+      let rest = moved_rest (link old) (link one) (link two) (node old) (front_of p) a x c (front_of q) b y moving in
+      homes_set (link old) (link two) (node old) was now b y c forest h here (λ k z d apart e. rest k z d apart e) r
 
   pub rehung_tree : tree_of two ≡ moved (tree_of old) p q
   rehung_tree =

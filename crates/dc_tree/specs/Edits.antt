@@ -61,7 +61,8 @@ PopsAt old at (popped.Child c) new = (x : List ℕ) × (link old at x ≡ Some c
 PopsAt old at (popped.Bare next) new = new ≡ old
 PopsAt old at popped.Kept new = new ≡ old
 
--- an arena stays one, and the same tree
+-- an arena stays one, and the same tree, and no link is new
 pub record Keeps (old new : List Cell) : Type 0 where
+  pub fewer : (k : ℕ) (x : List ℕ) (c : ℕ) → link new k x ≡ Some c → link old k x ≡ Some c
   pub arena : IsArena old → IsArena new
   pub tree : IsArena old → tree_of new ≡ tree_of old

@@ -3,3 +3,6 @@ pub mod Children
 pub mod Arena
 pub mod Places
 pub mod Edits
+pub mod Homes
+pub mod Same
+pub mod Walking

@@ -14,8 +14,10 @@ ghost use Rattle.std.specs.BTreeMap.{keys, IsOrdered};
 ghost use Rattle.std.specs.Ordering.{nat_cmp};
 ghost use Rattle.std.specs.Cmp.Lexicographic.{slice_cmp};
 ghost use Rattle.dc_tree.specs.Children.{IsNames};
+ghost use Rattle.dc_tree.specs.Homes.{home_at, Rehomed};
 ghost use Rattle.dc_attrs.specs.Trees.{seen_node, bytes_of, attrs_of, appended, with_attrs};
 
+use crate::homes::{Home, make_homes, set_home};
 use dc_attrs::{Attrs, Seen};
 use dc_path::{List, Name, OutOfMemory, Path};
 use std::alloc::Global;
@@ -226,10 +228,11 @@ fn next_free(slots: &[Slot], at: usize) -> usize {
     }
 }
 
-/// Hangs a new slot under a directory.
+/// Hangs a new slot under a directory, and notes where it hangs.
 pub fn add(
     alloc: Global,
     slots: &mut Vec<Slot>,
+    homes: &mut Vec<Option<Home>>,
     free: &mut usize,
     at: usize,
     name: &Name,
@@ -239,11 +242,19 @@ pub fn add(
     requires bare { links_of (cell_of slot) ≡ [] }
     ensures ok { OnOk result (Adds (map cell_of slots.old.items) at name.now (node_of (cell_of slot)) (map cell_of slots.new.items)) }
     ensures err { OnErr result (cell_at (map cell_of slots.new.items) ≡ cell_at (map cell_of slots.old.items)) }
+    ensures home { OnOk result ((c : ℕ) → link (map cell_of slots.new.items) at name.now ≡ Some c → Rehomed homes.old.items homes.new.items c (record { parent = at; name = name.now })) }
+    ensures same_homes { OnErr result (home_at homes.new.items ≡ home_at homes.old.items) }
 {
     let copied = name.copy(alloc)?;
+    let home = Home {
+        parent: at,
+        name: name.copy(alloc)?,
+    };
     make_room(alloc, slots, free)?;
+    make_homes(homes, slots.len())?;
     let place = *free;
     add_link(slots, at, copied, place)?;
+    set_home(homes, place, home);
     *free = next_free(slots, place);
     put_slot(slots, place, slot);
     Ok(())

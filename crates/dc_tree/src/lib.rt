@@ -2,6 +2,8 @@
 #![tactic(auto)]
 
 mod arena;
+mod homes;
+mod same;
 mod tree;
 
 pub use tree::MemTree;

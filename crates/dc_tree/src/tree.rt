@@ -1,9 +1,9 @@
 //! A tree in memory: its calls.
 #![tactic(auto)]
 
-ghost use Rattle.std.specs.Prelude.{◌≡◌, ◌≢◌, ℕ, Some, None, [], IsTrue, IsSome, IfErr, IfOk, OnOk, OnErr};
+ghost use Rattle.std.specs.Prelude.{◌≡◌, ◌≢◌, ℕ, Some, None, [], true, false, IsTrue, IsSome, IfErr, IfOk, OnOk, OnErr};
 ghost use Rattle.std.specs.Option.{option_copied, is_some};
-ghost use Rattle.dc_path.specs.Paths.{cut};
+ghost use Rattle.dc_path.specs.Paths.{Names, cut};
 ghost use Rattle.dc_attrs.specs.Attributes.{default_dir, fits_file, fits_dir};
 ghost use Rattle.dc_attrs.specs.Trees.{Node, Dir, File, IsTree, seen, seen_node, with_node, without, moved, updated, appended, with_attrs, bytes_of, attrs_of};
 ghost use Rattle.dc_attrs.specs.Refusals.{Refuses, refused_dir, refused_put, refused_extend, refused_remove, refused_rename, refused_onto, refused_at, refused_in};
@@ -11,13 +11,18 @@ ghost use Rattle.dc_tree.specs.Arena.{cell_of, node_of, links_of, node, tree_of,
 ghost use Rattle.dc_tree.specs.Children.{IsNames, AreChildren};
 ghost use Rattle.dc_tree.specs.Edits.{Nodes};
 ghost use Rattle.dc_tree.specs.Fitting.{is_fitting, fits_at, HasFittingAttrs};
+ghost use Rattle.dc_tree.specs.Homes.{AreHomes};
+ghost use Rattle.dc_tree.specs.Same.{SameUnder, DiffersUnder};
+ghost use Rattle.dc_tree.specs.Walking.{SameBelow, DiffersBelow};
 ghost use Rattle.dc_tree.specs.Places.{FitsPlace, IsVacant, IsTaken};
 
 use crate::arena::{
     Place, Slot, Way, add, add_link, append_at, attrs_at, bytes_at, copy_slots, cut_link, dismiss,
     drain, find_place, names_at, put_slot, seen_at, set_attrs_at, walk,
 };
-use dc_attrs::{Attrs, Seen, TreeError};
+use crate::homes::{Home, copy_homes, set_home};
+use crate::same::same_below;
+use dc_attrs::{Attrs, Keep, Seen, TreeError};
 use dc_path::{List, Name, OutOfMemory, Path};
 use std::alloc::Global;
 use std::collections::BTreeMap;
@@ -28,24 +33,26 @@ use std::marker::Model;
 /// It is an arena of slots, in which each directory has an ordered map of its children. The type keeps that it is a tree:
 /// the root is a directory, and so is the parent of all that stands. It keeps too that attributes fit: those of each file
 /// fit a file, those of each directory a directory. A lookup takes one search in a map for each name of the path, and a
-/// rename takes two lookups, however much moves. `copy` and `remove` go over the slots in loops, so a deep tree does not
-/// use up the stack.
+/// rename takes two lookups, however much moves. `copy`, `remove` and `same_under` go over the slots in loops, so a deep
+/// tree does not use up the stack. Beside each slot stands where it hangs, with a copy of its name.
 #[derive(Drop)]
 pub struct MemTree {
     slots: Vec<Slot>,
+    homes: Vec<Option<Home>>,
     free: usize,
     alloc: Global,
 }
 
 impl Model for MemTree {
     ghost use Rattle.std.specs.Prelude.{List, map};
-    ghost use Rattle.dc_tree.specs.Arena.{Cell, cell_of, IsArena};
+    ghost use Rattle.dc_tree.specs.Arena.{Cell, cell_of, link, IsArena};
+    ghost use Rattle.dc_tree.specs.Homes.{AreHomes};
 
     ghost Value = { List Cell };
 
     ghost view = { λ t. map cell_of t.slots.items };
 
-    ghost invariant = { λ t. IsArena (map cell_of t.slots.items) };
+    ghost invariant = { λ t. IsArena (map cell_of t.slots.items) × AreHomes (link (map cell_of t.slots.items)) t.homes.items };
 }
 
 impl MemTree {
@@ -60,6 +67,7 @@ impl MemTree {
         })?;
         Ok(MemTree {
             slots,
+            homes: Vec::new(alloc),
             free: 0,
             alloc,
         })
@@ -192,7 +200,15 @@ impl MemTree {
         let Some(name) = path.last() else {
             return Err(OutOfMemory);
         };
-        add(alloc, &mut self.slots, &mut self.free, parent, name, slot)
+        add(
+            alloc,
+            &mut self.slots,
+            &mut self.homes,
+            &mut self.free,
+            parent,
+            name,
+            slot,
+        )
     }
 
     /// Makes a directory with nothing in it (POSIX.1, `mkdir`). The attributes must fit a directory.
@@ -415,8 +431,13 @@ impl MemTree {
             return Err(OutOfMemory);
         };
         let name = new_name.copy(alloc)?;
+        let home = Home {
+            parent,
+            name: new_name.copy(alloc)?,
+        };
         add_link(&mut self.slots, parent, name, child)?;
         cut_link(&mut self.slots, held_by, old_name);
+        set_home(&mut self.homes, child, home);
         Ok(())
     }
 
@@ -489,13 +510,64 @@ impl MemTree {
         }
     }
 
+    // The slot to which a path leads.
+    fn slot_of(&self, path: &Path) -> Option<usize>
+        ensures slot { result ≡ reach (link self.now) 0 path.now }
+        ensures arena { IsArena self.now }
+    {
+        match self.find(path) {
+            Way::At(at) => Some(at),
+            Way::Missing => None,
+            Way::NotDir => None,
+        }
+    }
+
+    // Whether two parts are alike, by the slots of their tops.
+    fn same_from(&self, at: usize, other: &MemTree, there: usize, keep: &Keep) -> bool
+        ensures yes { result ≡ true → SameBelow keep.now self.now at other.now there }
+        ensures no { result ≡ false → (p : Names) → reach (link self.now) 0 p ≡ Some at → DiffersBelow keep.now self.now at other.now there }
+    {
+        same_below(
+            keep,
+            &self.slots,
+            &self.homes,
+            at,
+            &other.slots,
+            &other.homes,
+            there,
+        )
+    }
+
+    /// Whether what stands at and under `path` here is the same as what stands at and under `place` in `other`.
+    ///
+    /// Below both, the same paths must stand, of the same kinds, with the same bytes and the same attributes at the kept
+    /// letters. The tops must be of one kind with the same bytes; their attributes do not count. Paths that have the name
+    /// `.snapshot` below the tops are passed over. Where nothing stands at both, they are the same; where something stands
+    /// at one alone, they are not.
+    ///
+    /// It takes no memory, and no stack by depth. It looks up each name of both parts a few times, so it takes n log n
+    /// steps.
+    pub fn same_under(&self, path: &Path, other: &MemTree, place: &Path, keep: &Keep) -> bool
+        ensures same { result ≡ true → SameUnder keep.now (tree_of self.now) path.now (tree_of other.now) place.now }
+        ensures differs { result ≡ false → DiffersUnder keep.now (tree_of self.now) path.now (tree_of other.now) place.now }
+    {
+        match (self.slot_of(path), other.slot_of(place)) {
+            (Some(at), Some(there)) => self.same_from(at, other, there, keep),
+            (Some(_), None) => false,
+            (None, Some(_)) => false,
+            (None, None) => true,
+        }
+    }
+
     /// An equal tree. `OutOfMemory` is the one error.
     pub fn copy(&self, alloc: Global) -> Result<MemTree, OutOfMemory>
         ensures { IfOk result (λ t. tree_of t ≡ tree_of self.now) }
     {
         let slots = copy_slots(alloc, &self.slots)?;
+        let homes = copy_homes(alloc, &self.homes)?;
         Ok(MemTree {
             slots,
+            homes,
             free: self.free,
             alloc,
         })

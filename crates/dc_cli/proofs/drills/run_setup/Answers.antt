@@ -13,4 +13,4 @@ pub returns-clause-counts : goal.returns-clause-counts
 returns-clause-counts g c = λ ended.
     let asks = subst (λ (words : List (List ℕ)). Asks words drill_source drill_target) (sym (c.as_slice.ensures ∙ c.requires)) drill_asks in
     of_told (λ s. IsTree s → AreCounts (listed s drill_source) drill_target c.distcp.result.counts) _ (tree_of c.args.setup.source) c.new-source.ensures.tree
-    (c.distcp.ensures.counts ended drill_source drill_target asks) (is_tree c.args.setup.source (subst IsArena c.tree.view_is c.tree.invariant))
+    (c.distcp.ensures.counts ended drill_source drill_target asks) (is_tree c.args.setup.source (subst IsArena c.tree.view_is c.tree.invariant.0))

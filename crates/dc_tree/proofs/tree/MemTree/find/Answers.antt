@@ -12,7 +12,7 @@ returns-clause-seen c =
 pub returns-clause-node : goal.returns-clause-node
 returns-clause-node c =
     let e = whole_way c.deref.result.now c.self.inside.slots.items c.args.self.now c.args.path.now c.len.result c.walk.result c.walk.ensures c.deref.ensures.value c.len.ensures.count c.self.view_is in
-    node_by_way c.args.self.now c.args.path.now (subst IsArena c.self.view_is c.self.invariant) ∙ ap (node_way c.args.self.now) (sym e)
+    node_by_way c.args.self.now c.args.path.now (subst IsArena c.self.view_is c.self.invariant.0) ∙ ap (node_way c.args.self.now) (sym e)
 
 pub returns-clause-at : goal.returns-clause-at
 returns-clause-at c = λ k h.
@@ -20,7 +20,7 @@ returns-clause-at c = λ k h.
     way_reach c.args.self.now 0 c.args.path.now k (sym e ∙ h)
 
 pub returns-clause-tree : goal.returns-clause-tree
-returns-clause-tree c = is_tree c.args.self.now (subst IsArena c.self.view_is c.self.invariant)
+returns-clause-tree c = is_tree c.args.self.now (subst IsArena c.self.view_is c.self.invariant.0)
 
 pub returns-clause-fits : goal.returns-clause-fits
-returns-clause-fits c = is_fitting_tree c.args.self.now (subst IsArena c.self.view_is c.self.invariant)
+returns-clause-fits c = is_fitting_tree c.args.self.now (subst IsArena c.self.view_is c.self.invariant.0)

@@ -1,9 +1,11 @@
-use Rattle.std.proofs.Common.{◌∙◌, ap, subst, ℕ, map, None, Option, List}
+use Rattle.std.proofs.Common.{◌∙◌, sym, ap, subst, ℕ, map, None, Option, List}
 use Rattle.dc_attrs.specs.Trees.{Node}
-use Rattle.dc_tree.specs.Arena.{cell_of, Cell, node}
+use Rattle.dc_tree.specs.Arena.{cell_of, Cell, node, link}
 use Rattle.dc_tree.specs.Edits.{Links}
 use Rattle.dc_tree.proofs.Cells.{within_some}
 use Rattle.dc_tree.proofs.Steps.{unhung_arena, unhung_tree}
+use Rattle.dc_tree.proofs.Graph.{Link, was_link}
+use Rattle.dc_tree.proofs.Homing.{homes_fewer}
 use Rattle.dc_tree.proofs.tree.MemTree.unhang.Goals as goal
 
 pub dismiss-requires : goal.dismiss-requires
@@ -16,7 +18,10 @@ invariant_of-self c =
     let one : List Cell = map cell_of c.cut_link.new.slots.items in
     let two : List Cell = map cell_of c.dismiss.new.slots.items in
     let l = subst (λ (cells : List Cell). Links cells c.args.parent c.in-Some.name.now None one) c.self.view_is c.cut_link.ensures in
-    c.drain.ensures.arena (unhung_arena c.args.self.now one two c.args.path.now c.args.parent c.args.child c.in-Some.name.now c.requires c.in-Some.ensures l c.dismiss.ensures.nodes)
+    let last : List Cell = map cell_of c.drain.new.slots.items in (
+      c.drain.ensures.arena (unhung_arena c.args.self.now one two c.args.path.now c.args.parent c.args.child c.in-Some.name.now c.requires c.in-Some.ensures l c.dismiss.ensures.nodes),
+      homes_fewer (link (map cell_of c.self.inside.slots.items)) (link last) c.self.inside.homes.items (λ k x d e. was_link (link (map cell_of c.self.inside.slots.items)) (link one) c.args.parent c.in-Some.name.now c.cut_link.ensures.set k x d (sym (ap (λ (g : Link). g k x) c.dismiss.ensures.nodes.links) ∙ c.drain.ensures.fewer k x d e)) c.self.invariant.1,
+    )
 
 pub returns : goal.returns
 returns c =
