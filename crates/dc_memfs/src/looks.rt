@@ -1,7 +1,7 @@
 //! Looks at a tree in memory, as stores answer them.
 #![tactic(auto)]
 
-ghost use Rattle.std.specs.Prelude.{◌≡◌, ◌≢◌, ◌≤◌, Some, length, IfOk, IfErr, IsSomeAnd, IsSome, IsTrue};
+ghost use Rattle.std.specs.Prelude.{◌≡◌, ◌≢◌, ◌≤◌, Some, length, drop, IfOk, IfErr, OnErr, IsSomeAnd, IsSome, IsTrue};
 ghost use Rattle.std.specs.List.{list_all};
 ghost use Rattle.std.specs.List.Sorted.{IsStrictlySortedBy};
 ghost use Rattle.std.specs.Cmp.Lexicographic.{slice_cmp};
@@ -103,6 +103,7 @@ fn fill_from(bytes: &[u8], at: usize, into: &mut [u8]) -> usize
     requires { at ≤ length bytes.now }
     ensures within { result ≤ length into.new }
     ensures read { IsRead bytes.now at result into.new }
+    ensures beyond { drop result into.new ≡ drop result into.old }
 {
     let count = into.len().min(bytes.len() - at);
     into[..count].copy_from_slice(&bytes[at..at + count]);
@@ -114,7 +115,10 @@ fn read_file(tree: &MemTree, path: &Path, at: u64, into: &mut [u8]) -> Result<us
     requires { IsSome (bytes_of (tree_of tree.now path.now)) }
     ensures within { IfOk result (λ count. count ≤ length into.new) }
     ensures read { IfOk result (λ count. IsSomeAnd (bytes_of (tree_of tree.now path.now)) (λ bytes. IsRead bytes at count into.new)) }
+    ensures beyond { IfOk result (λ count. drop count into.new ≡ drop count into.old) }
+    ensures err { OnErr result (into.new ≡ into.old) }
     ensures answers { ReadAnswers (refused_read at (seen_node (tree_of tree.now path.now))) result }
+    ensures memory { IfErr result (λ e. e ≢ ReadError.Memory) }
     ensures no_fault { IfErr result (λ e. e ≢ ReadError.Fault) }
 {
     match tree.bytes(path) {
@@ -132,7 +136,10 @@ fn read_file(tree: &MemTree, path: &Path, at: u64, into: &mut [u8]) -> Result<us
 pub fn read_at(tree: &MemTree, path: &Path, at: u64, into: &mut [u8]) -> Result<usize, ReadError>
     ensures within { IfOk result (λ count. count ≤ length into.new) }
     ensures read { IfOk result (λ count. IsSomeAnd (bytes_of (tree_of tree.now path.now)) (λ bytes. IsRead bytes at count into.new)) }
+    ensures beyond { IfOk result (λ count. drop count into.new ≡ drop count into.old) }
+    ensures err { OnErr result (into.new ≡ into.old) }
     ensures answers { ReadAnswers (refused_read at (seen (tree_of tree.now) path.now)) result }
+    ensures memory { IfErr result (λ e. e ≢ ReadError.Memory) }
     ensures no_fault { IfErr result (λ e. e ≢ ReadError.Fault) }
 {
     match tree.kind(path) {

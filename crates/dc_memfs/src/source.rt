@@ -1,7 +1,7 @@
 //! Sources in memory.
 #![tactic(auto)]
 
-ghost use Rattle.std.specs.Prelude.{◌≡◌, ◌≤◌, ◌↔◌, Some, length, IfOk, IsSomeAnd, IsTrue, IsErrOf};
+ghost use Rattle.std.specs.Prelude.{◌≡◌, ◌≢◌, ◌≤◌, ◌↔◌, Some, length, drop, IfOk, IfErr, OnErr, IsSomeAnd, IsTrue, IsErrOf};
 ghost use Rattle.std.specs.List.{list_all};
 ghost use Rattle.std.specs.List.Sorted.{IsStrictlySortedBy};
 ghost use Rattle.std.specs.Cmp.Lexicographic.{slice_cmp};
@@ -130,7 +130,10 @@ impl<'t> Store for MemSource<'t> {
         ensures cause { HasCause self.old.calls.faults self.new.calls.faults result ReadError.Fault }
         ensures within { IfOk result (λ count. count ≤ length into.new) }
         ensures read { IfOk result (λ count. IsSomeAnd (bytes_of (tree_of self.old.tree path.now)) (λ bytes. IsRead bytes at count into.new)) }
+        ensures beyond { IfOk result (λ count. drop count into.new ≡ drop count into.old) }
+        ensures err { OnErr result (into.new ≡ into.old) }
         ensures answers { ReadAnswers (refused_read at (seen (tree_of self.old.tree) path.now)) result }
+        ensures memory { IfErr result (λ e. e ≢ ReadError.Memory) }
     {
         self.looks = self.looks.saturating_add(1);
         if self.calls.fails(self.own, Which::Read) {
