@@ -1,5 +1,5 @@
 -- Items of lists, by their places.
-use Rattle.std.proofs.Common.{◌≡◌, ℕ, zero, suc, ◌+◌, ◌<◌, Bool, true, false, ◌||◌, List, [], ◌∷◌, length, take, slice_get, Some, None, refl, ap, ◌∙◌, arith}
+use Rattle.std.proofs.Common.{◌≡◌, ℕ, zero, suc, ◌+◌, ◌<◌, ◌≤◌, Bool, true, false, ◌||◌, List, [], ◌∷◌, ◌++◌, length, take, drop, slice_get, Some, None, refl, ap, ◌∙◌, arith}
 use Rattle.std.specs.List.{list_all, list_any}
 use Rattle.std.specs.Cmp.{first_so, second_so}
 
@@ -46,3 +46,22 @@ pub get_past : {X : Type 0} (xs : List X) (i : ℕ) → i < length xs → slice_
 get_past [] i h e = omega arith
 get_past (x ∷ xs) zero h e = cc
 get_past (x ∷ xs) (suc i) h e = get_past xs i (omega arith) e
+
+-- what is left from a place on
+pub drop_get : {X : Type 0} (xs : List X) (i : ℕ) (x : X) → slice_get xs i ≡ Some x → drop i xs ≡ x ∷ drop (i + 1) xs
+drop_get [] i x e = absurd (cc)
+drop_get (y ∷ xs) zero x e = let k : y ≡ x = cc in ap (λ z. z ∷ xs) k
+drop_get (y ∷ xs) (suc i) x e = let s : suc i + 1 ≡ suc (i + 1) = omega arith in rw s (drop_get xs i x e)
+
+-- what stands before the next place
+pub take_get : {X : Type 0} (xs : List X) (i : ℕ) (x : X) → slice_get xs i ≡ Some x → take (i + 1) xs ≡ take i xs ++ x ∷ []
+take_get [] i x e = absurd (cc)
+take_get (y ∷ xs) zero x e = let k : y ≡ x = cc in ap (λ z. z ∷ []) k
+take_get {X} (y ∷ xs) (suc i) x e = let s : suc i + 1 ≡ suc (i + 1) = omega arith in rw s (ap (λ (zs : List X). y ∷ zs) (take_get xs i x e))
+
+-- nothing is left at the end
+pub drop_past : {X : Type 0} (xs : List X) (i : ℕ) → length xs ≤ i → drop i xs ≡ []
+drop_past [] zero h = refl
+drop_past [] (suc i) h = refl
+drop_past (x ∷ xs) zero h = absurd (omega arith)
+drop_past (x ∷ xs) (suc i) h = drop_past xs i (omega arith)

@@ -1,11 +1,11 @@
 -- Sorted lists.
-use Rattle.std.proofs.Common.{ℕ, ◌≡◌, ◌⊎◌, inl, inr, ⊎_elim, List, [], ◌∷◌, Bool, true, false, cond, ◌&&◌, ◌||◌, refl, sym, ◌∙◌, ap, arith}
-use Rattle.dc_path.specs.Names.{same_name}
-use Rattle.dc_path.specs.Order.{name_lt, path_lt}
-use Rattle.dc_path.specs.Paths.{Names}
+use Rattle.std.proofs.Common.{◌≡◌, ◌⊎◌, inl, inr, ⊎_elim, List, [], ◌∷◌, ◌++◌, Bool, true, false, cond, refl, sym, ◌∙◌, ap}
+use Rattle.std.proofs.lemmas.Bool.{false_from_ne_true}
 use Rattle.dc_report.specs.Carrying.{Has, insert_by, sort_by}
-use Rattle.dc_report.proofs.StageNames.{same_name-refl, same_name-true, name_lt-connex}
-use Rattle.dc_report.proofs.Staging.{IsSorted}
+
+abbrev pub IsSorted : {X : Type 0} → (X → X → Bool) → List X → Type 0
+IsSorted lt [] = Unit {0}
+IsSorted {X} lt (x ∷ xs) = ((y : X) → Has xs y → lt x y ≡ true) × IsSorted lt xs
 
 inserted : {X : Type 0} (b : Bool) (x y z : X) (ys is : List X) → (Has is z → (z ≡ x) ⊎ Has ys z) → Has (cond b (x ∷ y ∷ ys) (y ∷ is)) z → (z ≡ x) ⊎ ((z ≡ y) ⊎ Has ys z)
 inserted true x y z ys is ih k = k
@@ -65,16 +65,29 @@ pub sort_sorted : {X : Type 0} (lt : X → X → Bool) (xs : List X) → IsTrans
 sort_sorted lt [] tr a = tt
 sort_sorted lt (x ∷ xs) tr a = insert_sorted lt x (sort_by lt xs) tr (sort_sorted lt xs tr a.1) (λ z h. a.0 z (sort_has lt xs z h))
 
-by_order : (x y : List ℕ) (a b : Names) (t : Bool) → same_name x y ≡ t → (x ∷ a ≡ y ∷ b → ⊥) → ((a ≡ b → ⊥) → (path_lt a b ≡ true) ⊎ (path_lt b a ≡ true)) → ((name_lt x y || (same_name x y && path_lt a b)) ≡ true) ⊎ ((name_lt y x || (same_name y x && path_lt b a)) ≡ true)
-by_order x y a b true t h ih =
-    let e = same_name-true x y t in
-    let f = same_name-refl y in
-    ⊎_elim (λ k. inl (grind arith)) (λ k. inr (grind (arith, e, f))) (ih (λ i. h (cc)))
-by_order x y a b false t h ih =
-    ⊎_elim (λ k. inl (grind arith)) (λ k. inr (grind arith)) (name_lt-connex x y (λ e. let k : true ≡ false = sym (same_name-refl y) ∙ ap (λ (u : List ℕ). same_name u y) (sym e) ∙ t in cc))
+-- ---- an item more at the end
+module _ {X : Type 0} (lt : X → X → Bool) (tr : IsTransitive lt) (off : (x : X) → lt x x ≡ false) where
+  one_way : (x y : X) → lt x y ≡ true → lt y x ≡ false
+  one_way x y e = false_from_ne_true (lt y x) (λ k. let n : true ≡ false = sym (tr x y x e k) ∙ off x in absurd (cc))
 
-pub path_lt-connex : (a b : Names) → (a ≡ b → ⊥) → (path_lt a b ≡ true) ⊎ (path_lt b a ≡ true)
-path_lt-connex [] [] h = absurd (h refl)
-path_lt-connex [] (y ∷ b) h = inl refl
-path_lt-connex (x ∷ a) [] h = inr refl
-path_lt-connex (x ∷ a) (y ∷ b) h = by_order x y a b (same_name x y) refl h (λ k. path_lt-connex a b k)
+  swap_less : (x y z : X) (zs : List X) (c d : Bool) → lt x y ≡ true → lt x z ≡ c → lt y z ≡ d → insert_by lt x (insert_by lt y zs) ≡ insert_by lt y (insert_by lt x zs) → insert_by lt x (insert_by lt y (z ∷ zs)) ≡ insert_by lt y (insert_by lt x (z ∷ zs))
+  swap_less x y z zs c true e g h ih = rw (tr x y z e h, h, e, one_way x y e) refl
+  swap_less x y z zs true false e g h ih = rw (h, g, one_way x y e, h) refl
+  swap_less x y z zs false false e g h ih =
+      let a : insert_by lt y (z ∷ zs) ≡ z ∷ insert_by lt y zs = rw h refl in
+      let b : insert_by lt x (z ∷ zs) ≡ z ∷ insert_by lt x zs = rw g refl in
+      let c : insert_by lt x (z ∷ insert_by lt y zs) ≡ z ∷ insert_by lt x (insert_by lt y zs) = rw g refl in
+      let d : insert_by lt y (z ∷ insert_by lt x zs) ≡ z ∷ insert_by lt y (insert_by lt x zs) = rw h refl in
+      ap (insert_by lt x) a ∙ c ∙ ap (λ (u : List X). z ∷ u) ih ∙ sym (ap (insert_by lt y) b ∙ d)
+
+  -- two items go in either way round
+  insert_swap : (x y : X) (zs : List X) → lt x y ≡ true → insert_by lt x (insert_by lt y zs) ≡ insert_by lt y (insert_by lt x zs)
+  insert_swap x y [] e = rw (e, one_way x y e) refl
+  insert_swap x y (z ∷ zs) e = swap_less x y z zs (lt x z) (lt y z) e refl refl (insert_swap x y zs e)
+
+  -- the last of a list goes to its place among the others
+  pub sort_last : (xs : List X) (x : X) → ((y : X) → Has xs y → (lt x y ≡ true) ⊎ (lt y x ≡ true)) → sort_by lt (xs ++ x ∷ []) ≡ insert_by lt x (sort_by lt xs)
+  sort_last [] x a = refl
+  sort_last (y ∷ xs) x a =
+      ap (insert_by lt y) (sort_last xs x (λ z h. a z (inr h)))
+      ∙ ⊎_elim (λ e. sym (insert_swap x y (sort_by lt xs) e)) (λ e. insert_swap y x (sort_by lt xs) e) (a y (inl refl))

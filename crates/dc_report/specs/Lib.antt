@@ -7,11 +7,8 @@ pub mod Writing
 pub mod Laws
 pub mod Spelling
 pub mod Known
-pub mod Places
 pub mod Carrying
+pub mod Carries
+pub mod Apart
 pub mod Moves
-pub mod Checking
-pub mod Tests
-pub mod Refused
-pub mod Truth
-pub mod Replaying
+pub mod Landings

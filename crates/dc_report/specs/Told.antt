@@ -1,11 +1,14 @@
 -- Entries that a text can tell.
-use Rattle.std.specs.Prelude.{◌≡◌, true, false, List, [], ◌∷◌, ◌++◌, None}
-use Rattle.std.specs.List.{list_all}
+use Rattle.std.specs.Prelude.{◌≡◌, ℕ, true, false, List, [], ◌∷◌, ◌++◌, None}
+use Rattle.std.specs.List.{list_all, list_any}
+use Rattle.dc_path.specs.Names.{same_name}
 use Rattle.dc_path.specs.Paths.{Names, IsPath, is_root}
 use Rattle.dc_report.specs.declared.entries.Entry.{Entry}
 use Rattle.dc_report.specs.declared.entries.Entry.TheVariants.{Deleted, Renamed, Created, Modified}
+use Rattle.dc_report.specs.Carrying.{Has}
 use Rattle.dc_report.specs.Grammar.{is_told}
 use Rattle.dc_report.specs.Reports.{double_of}
+use Rattle.dc_report.specs.Writing.{paths_of}
 
 -- a path within the limits, each name of which may stand in a report
 pub record IsToldPath (path : Names) : Type 0 where
@@ -23,3 +26,7 @@ IsTold (Renamed a b) = (IsToldPath a × (is_root a ≡ false)) × (IsToldPath b 
 abbrev pub AreTold : List Entry → List Entry → Type 0
 AreTold before [] = Unit {0}
 AreTold before (entry ∷ entries) = (IsTold entry × (double_of 1 before entry ≡ None)) × AreTold (before ++ entry ∷ []) entries
+
+-- no path of the entries has this name
+abbrev pub HasNoName : List ℕ → List Entry → Type 0
+HasNoName name R = (entry : Entry) (p : Names) → Has R entry → Has (paths_of entry) p → list_any (same_name name) p ≡ false

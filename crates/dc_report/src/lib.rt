@@ -5,11 +5,13 @@
 //! that directory on.
 #![tactic(auto)]
 
+mod carries;
 mod entries;
 mod grammar;
 mod known;
 pub mod laws;
 mod lines;
+mod moves;
 mod report;
 mod writing;
 

@@ -1,23 +1,30 @@
 //! Reports.
 #![tactic(auto)]
 
-ghost use Rattle.std.specs.Prelude.{◌≡◌, ◌≢◌, [], ◌∷◌, ◌++◌, ◌+◌, ◌<◌, ◌^◌, List as Items, Some, Ok, IfOk, IfErr, OnOk};
+ghost use Rattle.std.specs.Prelude.{◌≡◌, ◌≢◌, [], ◌∷◌, ◌++◌, ◌+◌, ◌<◌, ◌^◌, List as Items, Some, Ok, Err, codes, IfOk, IfErr, OnOk};
 ghost use Rattle.dc_path.specs.Lines.{lines_of};
 ghost use Rattle.dc_path.specs.Unless.{GivesUnless};
 ghost use Rattle.dc_report.specs.declared.report.ReportError.TheVariants.{Memory};
 ghost use Rattle.dc_report.specs.declared.writing.WriteReportError.TheVariants.{Memory as Full};
-ghost use Rattle.dc_report.specs.Told.{AreTold};
+ghost use Rattle.dc_path.specs.declared.path.PathError.TheVariants.{Memory as Lacking};
+ghost use Rattle.dc_report.specs.Apart.{IsReport};
+ghost use Rattle.dc_report.specs.Carries.{carries_in};
+ghost use Rattle.dc_report.specs.Carrying.{carries_of, limited, moved, place};
+ghost use Rattle.dc_report.specs.Moves.{limited_moves, moves_of, stage_name};
+ghost use Rattle.dc_report.specs.Told.{AreTold, HasNoName};
 ghost use Rattle.dc_report.specs.Writing.{written};
 ghost use Rattle.dc_report.specs.Grammar.{entry_from};
 ghost use Rattle.dc_report.specs.Known.{Knows};
 ghost use Rattle.dc_report.specs.Reports.{with_spelt, entries_from, report_from};
 
-use crate::Entry;
+use crate::carries::{Carries, moved, place};
 use crate::grammar::{is_heading, read_entry};
 use crate::known::Known;
 use crate::lines::without_end;
+use crate::moves::report_moves;
 use crate::writing::{WriteReportError, write_entries};
-use dc_path::{List, OutOfMemory, Text, first_line};
+use crate::{Entry, Move};
+use dc_path::{List, OutOfMemory, Path, PathError, Text, first_line};
 use std::alloc::Global;
 use std::marker::Model;
 
@@ -53,18 +60,22 @@ impl From<OutOfMemory> for ReportError {
 #[derive(Drop)]
 pub struct Report {
     entries: List<Entry>,
+    carries: Carries,
 }
 
 impl Model for Report {
     ghost use Rattle.std.specs.Prelude.{List, []};
+    ghost use Rattle.std.specs.Prelude.{◌≡◌};
     ghost use Rattle.dc_report.specs.Told.{AreTold};
+    ghost use Rattle.dc_report.specs.Carries.{carries_in};
+    ghost use Rattle.dc_report.specs.Carrying.{carries_of};
     ghost use Rattle.dc_report.specs.declared.entries.Entry.{Entry};
 
     ghost Value = { List Entry };
 
     ghost view = { λ r. r.entries };
 
-    ghost invariant = { λ r. AreTold [] r.entries };
+    ghost invariant = { λ r. AreTold [] r.entries × (carries_in r.carries.entries ≡ carries_of r.entries) };
 }
 
 // Adds the entry of a line.
@@ -88,8 +99,10 @@ fn add_line(
 }
 
 // The entries of the lines from the second on.
-fn read_lines(alloc: Global, lines: &[u8]) -> Result<List<Entry>, ReportError>
-    ensures { GivesUnless Memory result (entries_from 2 [] (lines_of lines.now)) }
+fn read_lines(alloc: Global, lines: &[u8]) -> Result<(List<Entry>, Carries), ReportError>
+    ensures ok { IfOk result (λ parts. entries_from 2 [] (lines_of lines.now) ≡ Ok parts.0) }
+    ensures carries { IfOk result (λ parts. carries_in parts.1.entries ≡ carries_of parts.0) }
+    ensures err { IfErr result (λ e. e ≢ Memory → entries_from 2 [] (lines_of lines.now) ≡ Err e) }
 {
     let mut known = Known::new(alloc);
     let mut entries = List::new(alloc);
@@ -101,7 +114,7 @@ fn read_lines(alloc: Global, lines: &[u8]) -> Result<List<Entry>, ReportError>
         line += 1;
         rest = others;
     }
-    Ok(entries)
+    Ok((entries, known.into_carries()))
 }
 
 impl Report {
@@ -135,16 +148,67 @@ impl Report {
         if !is_heading(heading) {
             return Err(ReportError::BadHead);
         }
-        let entries = read_lines(alloc, lines)?;
-        Ok(Report { entries })
+        let (entries, carries) = read_lines(alloc, lines)?;
+        Ok(Report { entries, carries })
     }
 
     /// The entries, in the order of their lines. They are entries that a text can tell.
     pub fn entries(&self) -> &List<Entry>
         ensures entries { result.now ≡ self.now }
         ensures told { AreTold [] self.now }
+        ensures apart { IsReport self.now }
+        ensures plain { HasNoName (codes ".snapshot") self.now }
     {
         &self.entries
+    }
+
+    /// Where a path goes: its longest prefix that is deleted or renamed decides. Where there is none the answer is the
+    /// path itself; where it is renamed, its new path followed by the rest of the path; where it is deleted, `None`.
+    ///
+    /// # Errors
+    ///
+    /// - `TooDeep`, exactly where the path of the answer has more than `MAX_NAMES` names;
+    /// - else `TooLong`, exactly where its text has more than `MAX_BYTES` bytes;
+    /// - `Memory`, which may come in the place of any answer.
+    pub fn moved(&self, alloc: Global, path: &Path) -> Result<Option<Path>, PathError>
+        ensures { GivesUnless Lacking result (limited (moved (carries_of self.now) path.now)) }
+    {
+        moved(&self.carries, alloc, path)
+    }
+
+    /// Where what is created at a path stands: its parent goes as `moved` says, and its last name follows. `None` where
+    /// the parent goes nowhere, and for the root.
+    ///
+    /// # Errors
+    ///
+    /// - `TooDeep`, exactly where the path of the answer has more than `MAX_NAMES` names;
+    /// - else `TooLong`, exactly where its text has more than `MAX_BYTES` bytes;
+    /// - `Memory`, which may come in the place of any answer.
+    pub fn place(&self, alloc: Global, created: &Path) -> Result<Option<Path>, PathError>
+        ensures { GivesUnless Lacking result (limited (place (carries_of self.now) created.now)) }
+    {
+        place(&self.carries, alloc, created)
+    }
+
+    /// The moves that replay the report on the tree below a base; none where nothing is deleted or renamed.
+    ///
+    /// The stage, `.distcp.stage` below the base, is made. Each path that is deleted or renamed goes into it, the
+    /// greatest first, under the names `0`, `1` and so on. Each renamed item goes on to its new path, the least new path
+    /// first, behind the moves that make those of its parents that are to be made and were not made before, the shortest
+    /// first. The stage is removed. A parent is to be made where the longest of its prefixes that is a new path of a
+    /// rename or the place of something created is such a place.
+    ///
+    /// # Errors
+    ///
+    /// The first path that passes a limit decides, in the order of the moves, and in a `Shift` `from` before `to`:
+    ///
+    /// - `TooDeep`, where it has more than `MAX_NAMES` names;
+    /// - else `TooLong`, where its text has more than `MAX_BYTES` bytes;
+    /// - `Memory`, which may come in the place of any answer.
+    pub fn moves(&self, alloc: Global, base: &Path) -> Result<List<Move>, PathError>
+        ensures { GivesUnless Lacking result (limited_moves (moves_of stage_name base.now self.now)) }
+    {
+        report_moves(alloc, base, &self.entries, &self.carries)
     }
 
     /// The text of the report: the heading and then a line for each entry, in order, each with a line feed.

@@ -7,7 +7,9 @@ use Rattle.dc_report.proofs.Steps.{headed_none}
 use Rattle.dc_report.proofs.report.Report.read.Goals as goal
 
 pub invariant_of-result : goal.invariant_of-result
-invariant_of-result c = lines_are_told 2 c.in_ok-entries.entries (lines_of c.first_line.result.1.now) c.in_ok-entries.ensures
+invariant_of-result c =
+    let read = c.in_ok-entries.ensures in
+    (lines_are_told 2 c.in_ok-entries.entries (lines_of c.first_line.result.1.now) read.ok, read.carries)
 
 pub returns-then-is_empty : goal.returns-then-is_empty
 returns-then-is_empty c = λ _.

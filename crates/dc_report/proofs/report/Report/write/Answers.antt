@@ -11,5 +11,5 @@ use Rattle.dc_report.proofs.report.Report.write.Goals as goal
 pub returns-clause-read_back : goal.returns-clause-read_back
 returns-clause-read_back c =
     let same : c.as_slice.result.now ≡ c.args.self.now = c.as_slice.ensures ∙ c.self.view_is in
-    written_reads c.args.heading.now c.args.self.now (subst (AreTold []) c.self.view_is c.self.invariant) c.write_entries.result
+    written_reads c.args.heading.now c.args.self.now (subst (AreTold []) c.self.view_is c.self.invariant.0) c.write_entries.result
     (subst (λ (es : List Entry). GivesUnless Memory c.write_entries.result (written c.args.heading.now es)) same c.write_entries.ensures)

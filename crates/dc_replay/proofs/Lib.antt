@@ -1,0 +1,19 @@
+-- The modules of the proofs.
+pub mod Allowed
+pub mod Base
+pub mod Checking
+pub mod EndSnapshot
+pub mod Final
+pub mod Looks
+pub mod Placing
+pub mod PlanLemmas
+pub mod Refusing
+pub mod ReplayLaw
+pub mod Replaying
+pub mod Staging
+pub mod Testing
+pub mod Tracking
+pub mod TrueEntries
+pub mod TrueReport
+pub mod Where
+pub mod WordLaws

@@ -1,0 +1,10 @@
+-- The modules of the definitions.
+pub mod Places
+pub mod Arrivals
+pub mod Steps
+pub mod Checking
+pub mod Tests
+pub mod Refused
+pub mod Truth
+pub mod Words
+pub mod Replaying

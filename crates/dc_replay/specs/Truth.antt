@@ -1,0 +1,97 @@
+-- When a report tells how one tree became another, and what a copy with it lists
+-- (HDFS Snapshots, "Get Snapshots Difference Report"; HDFS-7535).
+-- R is the report, O the earlier and N the later tree.
+use Rattle.std.specs.Prelude.{ℕ, ◌≡◌, List, [], ◌∷◌, ◌++◌, Bool, true, false, cond, ◌||◌, Option, Some, None}
+use Rattle.std.specs.List.{list_any}
+use Rattle.std.specs.Option.{option_or}
+use Rattle.dc_attrs.specs.Trees.{Dir, File, IsDirAt, Node, Tree}
+use Rattle.dc_path.specs.Names.{same_name}
+use Rattle.dc_path.specs.Paths.{Names}
+use Rattle.dc_report.specs.Carrying.{Has, carries_of, is_fresh, place, plan}
+use Rattle.dc_replay.specs.Arrivals.{leads}
+use Rattle.dc_replay.specs.Checking.{NoneMovedTo, where_to}
+use Rattle.dc_replay.specs.Places.{IsNodeAt}
+use Rattle.dc_report.specs.declared.entries.Entry.{Entry}
+use Rattle.dc_report.specs.declared.entries.Entry.TheVariants.{Created, Deleted, Modified, Renamed}
+
+-- the node is a directory
+abbrev pub is_dir : Node → Bool
+is_dir (Dir a) = true
+is_dir (File b a) = false
+
+-- the report tells how O became N, but for bytes and attributes
+pub record IsTrueOf (R : List Entry) (O N : Tree) : Type 0 where
+  -- what it deletes, changes or renames stood
+  pub deleted : (p : Names) → Has R (Deleted p) → IsNodeAt O p
+  pub modified : (x : List ℕ) (p : Names) → Has R (Modified (x ∷ p)) → IsNodeAt O (x ∷ p)
+  pub renamed : (a b : Names) → Has R (Renamed a b) → IsNodeAt O a
+  -- no two paths went to one
+  pub apart : (p q r : Names) → IsNodeAt O p → IsNodeAt O q → where_to R p ≡ Some r → where_to R q ≡ Some r → p ≡ q
+  -- what went to a path stands there, as a file or a directory as before
+  pub leads : (p q : Names) (x : Node) → O p ≡ Some x → where_to R p ≡ Some q → (y : Node) × (N q ≡ Some y) × (is_dir x ≡ is_dir y)
+  -- what was created was created in a directory that was not deleted
+  pub created : (d : Names) (x : List ℕ) → Has R (Created (d ++ x ∷ [])) → IsDirAt O d × ((q : Names) × (where_to R d ≡ Some q))
+  -- it stands at its place, to which nothing went
+  pub places : (c q : Names) → Has R (Created c) → place (carries_of R) c ≡ Some q → IsNodeAt N q × NoneMovedTo R O q
+  -- what stands where nothing went is below a place
+  pub fresh : (q : Names) → IsNodeAt N q → NoneMovedTo R O q → is_fresh (plan R) q ≡ true
+
+-- ---- hidden paths
+-- one of the names is that of snapshots
+abbrev pub is_hidden : List ℕ → Names → Bool
+is_hidden snap p = list_any (same_name snap) p
+
+-- the tree without hidden paths
+abbrev pub plain : List ℕ → Tree → Tree
+plain snap T p = cond (is_hidden snap p) None (T p)
+
+-- no path that the report deletes, renames or creates is hidden
+pub record HasNoHidden (snap : List ℕ) (R : List Entry) : Type 0 where
+  pub deleted : (p : Names) → Has R (Deleted p) → is_hidden snap p ≡ false
+  pub renamed : (a b : Names) → Has R (Renamed a b) → (is_hidden snap a ≡ false) × (is_hidden snap b ≡ false)
+  pub created : (c : Names) → Has R (Created c) → is_hidden snap c ≡ false
+
+-- whether a directory stands, where something stands
+abbrev pub kind : Option Node → Option Bool
+kind None = None
+kind (Some x) = Some (is_dir x)
+
+-- without hidden paths A has the paths and kinds of O
+abbrev pub HasSameKinds : List ℕ → Tree → Tree → Type 0
+HasSameKinds snap A O = (p : Names) → kind (plain snap A p) ≡ kind (O p)
+
+-- ---- the later snapshot
+-- what is neither modified nor the root keeps its bytes and attributes
+abbrev pub KeepsNodes : List Entry → Tree → Tree → Type 0
+KeepsNodes R O N = (p q : Names) (x : Node) → (Has R (Modified p) → ⊥) → (p ≡ [] → ⊥) → O p ≡ Some x → where_to R p ≡ Some q → N q ≡ Some x
+
+-- something modified goes to the path
+abbrev pub takes_modified : List Entry → Names → Entry → Bool
+takes_modified R q (Deleted p) = false
+takes_modified R q (Renamed a b) = false
+takes_modified R q (Created c) = false
+takes_modified R q (Modified p) = leads (where_to R p) q
+
+-- what a copy with the report lists: what is new, and where what is modified goes
+abbrev pub is_listed : List Entry → Names → Bool
+is_listed R q = is_fresh (plan R) q || list_any (takes_modified R q) R
+
+-- the tree with what is listed and stands in the later snapshot copied from there
+abbrev pub with_listed : List Entry → Tree → Tree → Tree
+with_listed R N X q = cond (is_listed R q) (option_or (N q) (X q)) (X q)
+
+-- a test that tells which nodes count as the same: no file counts as a directory
+pub record IsLikeness (like : Node → Node → Bool) : Type 0 where
+  pub same : (x : Node) → like x x ≡ true
+  pub kinds : (x y : Node) → like x y ≡ true → is_dir x ≡ is_dir y
+
+-- nothing at both, or nodes that count as the same
+abbrev pub are_alike : (Node → Node → Bool) → Option Node → Option Node → Bool
+are_alike like None None = true
+are_alike like None (Some y) = false
+are_alike like (Some x) None = false
+are_alike like (Some x) (Some y) = like x y
+
+-- without hidden paths two trees are the same at each path but the root
+abbrev pub AreAlike : (Node → Node → Bool) → List ℕ → Tree → Tree → Type 0
+AreAlike like snap A B = (p : Names) → (p ≡ [] → ⊥) → are_alike like (plain snap A p) (plain snap B p) ≡ true

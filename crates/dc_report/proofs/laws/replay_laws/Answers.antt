@@ -1,6 +1,0 @@
--- The laws are proved of the definitions.
-use Rattle.dc_report.proofs.ReplayLaw.{replaying_holds, tests_decide, true_reports_pass}
-use Rattle.dc_report.proofs.laws.replay_laws.Goals as goal
-
-pub returns : goal.returns
-returns c = record { replaying = replaying_holds; tests = tests_decide; truth = true_reports_pass }
