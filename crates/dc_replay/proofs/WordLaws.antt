@@ -7,9 +7,10 @@ use Rattle.dc_path.specs.Order.{path_lt}
 use Rattle.dc_path.specs.Paths.{Names, cut, same_path}
 use Rattle.dc_path.proofs.PathLemmas.{Last, append-cut, by_last_name, cut-append, empty, ended, last_case, same_ends, same_path-true}
 use Rattle.dc_report.specs.Apart.{IsReport}
-use Rattle.dc_report.specs.Carrying.{Carried, Carry, Has, Place, Stays, With, carried_by, carrier, carries_of, carry_of, is_fresh, old_lt, place, place_from, place_of, moved, plan, then_rest}
+use Rattle.dc_report.specs.Carrying.{Carried, Carry, Has, Place, Stays, With, carried_by, carrier, carries_of, carry_of, is_fresh, old_lt, place, place_of, plan}
 use Rattle.dc_report.specs.declared.entries.Entry.{Entry}
 use Rattle.dc_report.specs.declared.entries.Entry.TheVariants.{Created, Deleted, Renamed}
+use Rattle.dc_report.proofs.Carriers.{place_last}
 use Rattle.dc_report.proofs.PathOrder.{cut-longer}
 use Rattle.dc_report.proofs.Sorting.{has_sort}
 use Rattle.dc_replay.specs.Words.{IsBelowPlace, IsLongestOld, LeadsByLongest, WordsMean}
@@ -64,15 +65,6 @@ carried_as R c r is h longest = by_carrier (carrier (carries_of R) (c.old ++ r))
     by_carrier (With d s) e = ⊎_elim (λ i. e ∙ same d s i (carrier_rest cs (c.old ++ r) d s e)) (λ l. absurd (longer d s e l))
         (carrier_top cs (c.old ++ r) d s c r (carries_sorted R is.olds) e h own)
 
--- where what is created at a path stands
-place_last : (cs : List Carry) (front : Names) (y : List ℕ) (d : Names) (x : List ℕ) → place_from cs front y (d ++ x ∷ []) ≡ then_rest (moved cs (front ++ y ∷ d)) (x ∷ [])
-place_last cs front y [] x = refl
-place_last cs front y (z ∷ d) x = place_last cs (front ++ y ∷ []) z d x ∙ ap (λ (p : Names). then_rest (moved cs p) (x ∷ [])) (append_assoc front (y ∷ []) (z ∷ d))
-
-place_child : (cs : List Carry) (d : Names) (x : List ℕ) → place cs (d ++ x ∷ []) ≡ then_rest (moved cs d) (x ∷ [])
-place_child cs [] x = refl
-place_child cs (y ∷ d) x = place_last cs [] y d x
-
 carry_has : (R : List Entry) (e : Entry) (c : Carry) → Has R e → carry_of e ≡ Some c → Has (carries_of R) c
 carry_has R e c h k = has_sort old_lt (filter_map carry_of R) c (has_filter_map carry_of R e c h k)
 
@@ -81,7 +73,7 @@ leads_by_longest R is = record {
   stays = λ p off. rw (carrier_stays (carries_of R) p (λ d h. none_or (cut d.old p) (λ s e. off d.old s (carry_old R d h) (append-cut d.old p s e)))) refl;
   deleted = λ a r h l. rw (carried_as R (record { old = a; new = None }) r is (carry_has R (Deleted a) (record { old = a; new = None }) h refl) l) refl;
   renamed = λ a b r h l. rw (carried_as R (record { old = a; new = Some b }) r is (carry_has R (Renamed a b) (record { old = a; new = Some b }) h refl) l) refl;
-  placed = place_child (carries_of R);
+  placed = place_last (carries_of R);
 }
 
 -- ---- what is fresh stands below a place
