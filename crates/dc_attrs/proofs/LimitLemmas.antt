@@ -1,5 +1,6 @@
 -- Attributes whose fields come from attributes within the limits are within the limits.
-use Rattle.std.proofs.Common.{◌≡◌, ℕ, List, Bool, true, false, cond, not, Option, Some, None, length, nat_lt, refl, sym, ap, ◌∙◌}
+use Rattle.std.proofs.Common.{◌≡◌, ◌≤◌, ℕ, List, Bool, true, false, cond, not, Option, Some, None, length, nat_lt, refl, sym, ap, subst, ◌∙◌, arith}
+use Rattle.std.proofs.lemmas.Bool.Decides.{nat_tests}
 use Rattle.dc_attrs.specs.Attributes.{Attributes}
 use Rattle.dc_attrs.specs.Limits.{bad_field, are_xattrs}
 use Rattle.dc_attrs.specs.declared.attributes.Xattr.{Xattr}
@@ -37,6 +38,35 @@ as_tests a = refl
 
 within : (a : Attributes) → bad_field a ≡ None → AllFalse (nat_lt 32767 a.replication) (nat_lt 1099511627776 a.block_size) (nat_lt 255 (length a.user)) (nat_lt 255 (length a.group)) (nat_lt 1023 a.mode) (nat_lt 4096 (length a.acl)) (not (are_xattrs a.xattrs))
 within a h = all_false _ _ _ _ _ _ _ (sym (as_tests a) ∙ h)
+
+-- each limit, as a fact
+under : (most n : ℕ) → nat_lt most n ≡ false → n ≤ most
+under most n h = grind (arith, nat_tests)
+
+pub most_replication : (a : Attributes) → bad_field a ≡ None → a.replication ≤ 32767
+most_replication a h = under 32767 a.replication (within a h).replication
+
+pub most_block_size : (a : Attributes) → bad_field a ≡ None → a.block_size ≤ 1099511627776
+most_block_size a h = under 1099511627776 a.block_size (within a h).block_size
+
+pub most_user : (a : Attributes) (text : List ℕ) → bad_field a ≡ None → text ≡ a.user → length text ≤ 255
+most_user a text h e = subst (λ (t : List ℕ). length t ≤ 255) (sym e) (under 255 (length a.user) (within a h).user)
+
+pub most_group : (a : Attributes) (text : List ℕ) → bad_field a ≡ None → text ≡ a.group → length text ≤ 255
+most_group a text h e = subst (λ (t : List ℕ). length t ≤ 255) (sym e) (under 255 (length a.group) (within a h).group)
+
+pub most_mode : (a : Attributes) → bad_field a ≡ None → a.mode ≤ 1023
+most_mode a h = under 1023 a.mode (within a h).mode
+
+pub most_acl : (a : Attributes) (text : List ℕ) → bad_field a ≡ None → text ≡ a.acl → length text ≤ 4096
+most_acl a text h e = subst (λ (t : List ℕ). length t ≤ 4096) (sym e) (under 4096 (length a.acl) (within a h).acl)
+
+negated : (b : Bool) → not b ≡ false → b ≡ true
+negated true h = refl
+negated false h = absurd (cc)
+
+pub xattrs_are : (a : Attributes) (xattrs : List Xattr) → bad_field a ≡ None → xattrs ≡ a.xattrs → are_xattrs xattrs ≡ true
+xattrs_are a xattrs h e = ap are_xattrs e ∙ negated (are_xattrs a.xattrs) (within a h).xattrs
 
 none_of : (r b u g m a x : Bool) → AllFalse r b u g m a x → tests r b u g m a x ≡ None
 unfolding tests

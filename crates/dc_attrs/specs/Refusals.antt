@@ -1,5 +1,6 @@
 -- Why a tree is not changed (POSIX.1: ENOENT, ENOTDIR, EEXIST, EISDIR, EINVAL of rename): each refusal by what stands, in its order.
 use Rattle.std.specs.Prelude.{◌≡◌, ◌≢◌, Option, Some, None, [], ◌∷◌, Result, Ok, Err}
+use Rattle.std.specs.Option.{option_or}
 use Rattle.dc_path.specs.Paths.{Names, cut, front_of}
 use Rattle.dc_attrs.specs.Trees.{Node, Dir, File, Tree, seen}
 use Rattle.dc_attrs.specs.declared.shown.Seen.{Seen}
@@ -11,11 +12,6 @@ use Rattle.dc_attrs.specs.declared.refusals.TreeError.TheVariants as tree_error
 abbrev pub Refuses : {X : Type 0} → Option TreeError → Result X TreeError → Type 0
 Refuses why (Ok x) = why ≡ None
 Refuses why (Err e) = e ≢ tree_error.Memory → why ≡ Some e
-
--- the first of two refusals
-abbrev pub or_else : Option TreeError → Option TreeError → Option TreeError
-or_else None why = why
-or_else (Some e) why = Some e
 
 -- what must be a directory
 abbrev pub refused_in : Seen → Option TreeError
@@ -67,7 +63,7 @@ refused_extend t p = refused_file (seen t p)
 
 -- removing: Root, then Missing or NotDir
 abbrev pub refused_remove : Tree → Names → Option TreeError
-refused_remove t p = or_else (refused_root p) (refused_at (seen t p))
+refused_remove t p = option_or (refused_root p) (refused_at (seen t p))
 
 abbrev pub refused_into : Option Names → Option TreeError
 refused_into None = None
@@ -75,8 +71,8 @@ refused_into (Some rest) = Some tree_error.IntoItself
 
 -- moving onto a path: Exists, IntoItself, then Missing or NotDir of the parent
 abbrev pub refused_onto : Tree → Names → Names → Option TreeError
-refused_onto t from to = refused_new (t to) (or_else (refused_into (cut from to)) (refused_in (seen t (front_of to))))
+refused_onto t from to = refused_new (t to) (option_or (refused_into (cut from to)) (refused_in (seen t (front_of to))))
 
 -- moving: Root of either, Missing or NotDir of what moves, and then what stands against the new path
 abbrev pub refused_rename : Tree → Names → Names → Option TreeError
-refused_rename t from to = or_else (refused_root from) (or_else (refused_root to) (or_else (refused_at (seen t from)) (refused_onto t from to)))
+refused_rename t from to = option_or (refused_root from) (option_or (refused_root to) (option_or (refused_at (seen t from)) (refused_onto t from to)))

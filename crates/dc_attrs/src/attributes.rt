@@ -1,7 +1,7 @@
 //! Attributes, with their limits.
 #![tactic(auto)]
 
-ghost use Rattle.std.specs.Prelude.{◌≡◌, ◌≤◌, List as Items, length, IfOk, Ok, Err, not, take, map, cond};
+ghost use Rattle.std.specs.Prelude.{◌≡◌, ◌≤◌, true, List as Items, length, IfOk, Ok, Err, not, take, map, cond};
 ghost use Rattle.dc_attrs.specs.Limits.{bad_field, checked, is_xattr, rises, are_xattrs, name_of};
 ghost use Rattle.dc_attrs.specs.Attributes.{Attributes, default_file, default_dir, fits_file, fits_dir};
 ghost use Rattle.dc_attrs.specs.Keeping.{overlay, keeps, same_kept};
@@ -134,51 +134,65 @@ impl Attrs {
         self.replication == 0 && self.block_size == 0
     }
 
-    /// How many replicas a file's blocks have.
+    /// How many replicas a file's blocks have, at most 32,767.
+    #[tactic(auto, using(crate::proofs::LimitLemmas::most_replication))]
     pub fn replication(&self) -> u16
-        ensures { result ≡ self.now.replication }
+        ensures value { result ≡ self.now.replication }
+        ensures most { result ≤ 32767 }
     {
         self.replication
     }
 
-    /// The size of a file's blocks, in bytes.
+    /// The size of a file's blocks, at most 1,099,511,627,776 bytes.
+    #[tactic(auto, using(crate::proofs::LimitLemmas::most_block_size))]
     pub fn block_size(&self) -> u64
-        ensures { result ≡ self.now.block_size }
+        ensures value { result ≡ self.now.block_size }
+        ensures most { result ≤ 1099511627776 }
     {
         self.block_size
     }
 
-    /// The owner.
+    /// The owner, at most 255 bytes.
+    #[tactic(auto, using(crate::proofs::LimitLemmas::most_user))]
     pub fn user(&self) -> &str
-        ensures { result.now ≡ self.now.user }
+        ensures value { result.now ≡ self.now.user }
+        ensures most { length result.now ≤ 255 }
     {
         self.user.as_str()
     }
 
-    /// The group.
+    /// The group, at most 255 bytes.
+    #[tactic(auto, using(crate::proofs::LimitLemmas::most_group))]
     pub fn group(&self) -> &str
-        ensures { result.now ≡ self.now.group }
+        ensures value { result.now ≡ self.now.group }
+        ensures most { length result.now ≤ 255 }
     {
         self.group.as_str()
     }
 
-    /// The permission bits.
+    /// The permission bits, at most octal 1777.
+    #[tactic(auto, using(crate::proofs::LimitLemmas::most_mode))]
     pub fn mode(&self) -> u16
-        ensures { result ≡ self.now.mode }
+        ensures value { result ≡ self.now.mode }
+        ensures most { result ≤ 1023 }
     {
         self.mode
     }
 
-    /// The access control list.
+    /// The access control list, at most 4,096 bytes.
+    #[tactic(auto, using(crate::proofs::LimitLemmas::most_acl))]
     pub fn acl(&self) -> &str
-        ensures { result.now ≡ self.now.acl }
+        ensures value { result.now ≡ self.now.acl }
+        ensures most { length result.now ≤ 4096 }
     {
         self.acl.as_str()
     }
 
-    /// The extended attributes, in strictly ascending order of names.
+    /// The extended attributes, at most 32, in strictly ascending order of names.
+    #[tactic(auto, using(crate::proofs::LimitLemmas::xattrs_are))]
     pub fn xattrs(&self) -> &[Xattr]
-        ensures { result.now ≡ self.now.xattrs }
+        ensures value { result.now ≡ self.now.xattrs }
+        ensures are { are_xattrs result.now ≡ true }
     {
         self.xattrs.as_slice()
     }

@@ -11,6 +11,3 @@ pub use attributes::{Attrs, AttrsError, Field, Xattr, overlay, same_kept};
 pub use keeping::{Keep, KeepError};
 pub use refusals::TreeError;
 pub use shown::Seen;
-
-#[cfg(test)]
-mod tests;

@@ -13,6 +13,3 @@ mod search;
 pub use filter::{Filter, FilterError, Searches};
 pub use pattern::{BuildError, Pattern, Patterns, RegexPatterns};
 pub use search::Search;
-
-#[cfg(test)]
-mod tests;

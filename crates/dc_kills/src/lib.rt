@@ -11,6 +11,3 @@ mod stop;
 
 pub use plan::{KillPlan, PlanError};
 pub use stop::Stop;
-
-#[cfg(test)]
-mod tests;

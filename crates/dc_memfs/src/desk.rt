@@ -20,8 +20,8 @@ pub struct MemTemp {
 }
 
 impl MemTemp {
-    // The bytes.
-    pub(crate) fn into_bytes(self) -> Vec<u8>
+    /// The bytes, out of the temporary.
+    pub fn into_bytes(self) -> Vec<u8>
         ensures { Some result.items ≡ ⟦<MemTemp as Held>⟧.content self }
     {
         let MemTemp { bytes } = self;

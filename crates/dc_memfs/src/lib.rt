@@ -14,6 +14,3 @@ pub use fails::{Fail, Fails, Which};
 pub use sink::{MAX_SINK_BYTES, MemSink};
 pub use source::MemSource;
 pub use target::MemTarget;
-
-#[cfg(test)]
-mod tests;

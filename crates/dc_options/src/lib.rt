@@ -13,6 +13,3 @@ mod words;
 
 pub use errors::OptionError;
 pub use settings::{Options, Strategy, SyncBy};
-
-#[cfg(test)]
-mod tests;

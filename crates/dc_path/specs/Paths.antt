@@ -1,5 +1,5 @@
 -- Paths as lists of names (POSIX.1, "Pathname", without `.` and `..`): limits, texts, order, prefixes.
-use Rattle.std.specs.Prelude.{ℕ, Bool, true, false, cond, List, [], ◌∷◌, ◌-◌, map, length, nat_eq, ◌≤◌, IsTrue, Option, Some, None, take, ◌&&◌}
+use Rattle.std.specs.Prelude.{ℕ, Bool, true, false, cond, List, [], ◌∷◌, ◌-◌, length, nat_eq, ◌≤◌, IsTrue, Option, Some, None, take, ◌&&◌}
 use Rattle.std.specs.Option.{is_some}
 use Rattle.std.specs.List.{flat_map, list_all}
 use Rattle.std.specs.Cmp.Lexicographic.{pointwise, slice_cmp}
@@ -73,9 +73,3 @@ is_above [] [] = false
 is_above [] (y ∷ path) = true
 is_above (x ∷ front) [] = false
 is_above (x ∷ front) (y ∷ path) = same_name x y && is_above front path
-
--- the proper prefixes of a path but the root, the shortest first
-abbrev pub above : Names → List Names
-above [] = []
-above (x ∷ []) = []
-above (x ∷ y ∷ rest) = (x ∷ []) ∷ map (λ path. x ∷ path) (above (y ∷ rest))

@@ -46,14 +46,17 @@ module _ (text : List ℕ) (no : same_name text (codes ".") ≡ false) where
     pub path_refused : (f : PathError) → path_from names ≡ Err f → path_in text ≡ None
     path_refused f h = read_is (Err f) h
 
-    pub path_other : (path : Names) → path_from names ≡ Ok path → same_name (dotted_of path) text ≡ false → path_in text ≡ None
-    path_other path h a = read_is (Ok path) h ∙ ap (λ (x : Bool). if_both x (list_all is_told path) path) a
-
-    pub path_untold : (path : Names) → path_from names ≡ Ok path → same_name (dotted_of path) text ≡ true → list_all is_told path ≡ false → path_in text ≡ None
-    path_untold path h a b = read_is (Ok path) h ∙ ap₂ (λ (x y : Bool). if_both x y path) a b
+    pub path_read : (path : Names) → path_from names ≡ Ok path → path_in text ≡ if_spelt text (Ok path)
+    path_read path h = read_is (Ok path) h
 
     pub path_spelt : (path : Names) → path_from names ≡ Ok path → same_name (dotted_of path) text ≡ true → list_all is_told path ≡ true → path_in text ≡ Some path
     path_spelt path h a b = read_is (Ok path) h ∙ ap₂ (λ (x y : Bool). if_both x y path) a b
+
+-- an answer to whether the path that was read is spelled like this, unless memory ran out
+pub spelt : (text names : List ℕ) (path : Names) (r : Result (Option Names) OutOfMemory) → same_name text (codes ".") ≡ false → text ≡ 46 ∷ names
+    → path_from names ≡ Ok path → IfOk r (λ told. told ≡ if_spelt text (Ok path)) → IfOk r (λ path. path ≡ path_in text)
+spelt text names path (Ok told) apart e h k = k ∙ sym (path_read text apart names e path h)
+spelt text names path (Err m) apart e h k = k
 
 -- an answer that there is no path, unless memory ran out
 pub refused : (text names : List ℕ) (f : PathError) (r : Result (Option Names) OutOfMemory) → same_name text (codes ".") ≡ false → text ≡ 46 ∷ names

@@ -1,8 +1,8 @@
 //! What a line of a report says.
 #![tactic(auto)]
 
-ghost use Rattle.std.specs.Prelude.{◌≡◌, ◌≢◌, ◌≤◌, length, None, IfOk, IsTrue};
-ghost use Rattle.dc_report.specs.Grammar.{last_arrow, has_tab, is_told, path_in, below_root, renamed_at, entry_by, entry_from, is_heading};
+ghost use Rattle.std.specs.Prelude.{◌≡◌, ◌≢◌, ◌≤◌, length, None, Ok, IfOk, IsTrue};
+ghost use Rattle.dc_report.specs.Grammar.{last_arrow, has_tab, is_told, if_spelt, path_in, below_root, renamed_at, entry_by, entry_from, is_heading};
 ghost use Rattle.std.specs.List.{list_all};
 ghost use Rattle.dc_path.specs.declared.path.PathError.TheVariants.{Memory};
 ghost use Rattle.dc_report.specs.Spelling.{split_of};
@@ -73,6 +73,18 @@ fn no_path(error: PathError) -> Result<Option<Path>, OutOfMemory>
     }
 }
 
+// The path, where it is spelled like this and a report may have its names.
+fn if_spelt(alloc: Global, path: Path, text: &str) -> Result<Option<Path>, OutOfMemory>
+    ensures { IfOk result (λ told. told ≡ if_spelt text.now (Ok path)) }
+{
+    let spelt = path.dotted(alloc)?;
+    if spelt.as_str() == text && all_told(&path) {
+        Ok(Some(path))
+    } else {
+        Ok(None)
+    }
+}
+
 // The path that a text spells: `.`, or `./` and names with one `/` between two.
 fn read_path(alloc: Global, text: &str) -> Result<Option<Path>, OutOfMemory>
     ensures { IfOk result (λ path. path ≡ path_in text.now) }
@@ -83,18 +95,10 @@ fn read_path(alloc: Global, text: &str) -> Result<Option<Path>, OutOfMemory>
     let Some(names) = text.strip_prefix(".") else {
         return Ok(None);
     };
-    let path = match Path::read(alloc, names) {
-        Ok(path) => path,
-        Err(error) => return no_path(error),
-    };
-    let spelt = path.dotted(alloc)?;
-    if spelt.as_str() != text {
-        return Ok(None);
+    match Path::read(alloc, names) {
+        Ok(path) => if_spelt(alloc, path, text),
+        Err(error) => no_path(error),
     }
-    if !all_told(&path) {
-        return Ok(None);
-    }
-    Ok(Some(path))
 }
 
 // The path that a text spells, where it is not the root.

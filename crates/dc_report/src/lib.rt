@@ -17,7 +17,4 @@ mod writing;
 
 pub use entries::{Entry, Move};
 pub use report::{Report, ReportError};
-pub use writing::WriteReportError;
-
-#[cfg(test)]
-mod tests;
+pub use writing::{WriteReportError, write_entries};

@@ -131,7 +131,8 @@ fn write_entry(alloc: Global, entry: &Entry, text: &mut String) -> Result<(), Wr
     Ok(())
 }
 
-/// The text of these entries with this heading.
+/// The text of these entries with this heading. `BadHead` where the first line of the heading is none, or there are more;
+/// `Ambiguous` with the first path that cannot be read back.
 pub fn write_entries(
     alloc: Global,
     heading: &Text,

@@ -1,8 +1,8 @@
 //! Paths, trees and comparisons that the examples share.
 #![tactic(auto)]
 
-use dc_attrs::{Attrs, TreeError};
-use dc_path::{List, Path};
+use dc_attrs::{Attrs, Keep, TreeError, overlay};
+use dc_path::{List, OutOfMemory, Path};
 use dc_tree::MemTree;
 use std::alloc::Global;
 
@@ -56,4 +56,43 @@ pub(crate) fn are_same(one: &Attrs, other: &Attrs) -> bool {
         && one.acl() == other.acl()
         && one.xattrs().len() == other.xattrs().len()
         && one.mtime() == other.mtime()
+}
+
+// Adds bytes to a file.
+pub(crate) fn extend(
+    alloc: Global,
+    tree: &mut MemTree,
+    text: &str,
+    content: &[u8],
+) -> Result<(), TreeError> {
+    let path = path(alloc, text)?;
+    tree.extend(alloc, &path, content)
+}
+
+// Moves what stands at a path.
+pub(crate) fn rename(
+    alloc: Global,
+    tree: &mut MemTree,
+    from: &str,
+    to: &str,
+) -> Result<(), TreeError> {
+    let from = path(alloc, from)?;
+    let to = path(alloc, to)?;
+    tree.rename(alloc, &from, &to)
+}
+
+// The tree of one directory with one file of two bytes.
+pub(crate) fn small_tree(alloc: Global) -> Result<MemTree, TreeError> {
+    let mut tree = MemTree::new(alloc)?;
+    make_dir(alloc, &mut tree, "/a")?;
+    put(alloc, &mut tree, "/a/f", b"1")?;
+    extend(alloc, &mut tree, "/a/f", b"2")?;
+    Ok(tree)
+}
+
+// A default directory's attributes with a default file's values at these letters.
+pub(crate) fn laid_over(alloc: Global, keep: &Keep) -> Result<Attrs, OutOfMemory> {
+    let file = Attrs::default_file(alloc);
+    let dir = Attrs::default_dir(alloc);
+    overlay(alloc, keep, &file, &dir)
 }

@@ -4,7 +4,11 @@
 #[cfg(test)]
 mod attributes;
 #[cfg(test)]
+mod faults;
+#[cfg(test)]
 mod fixtures;
+#[cfg(test)]
+mod sameness;
 #[cfg(test)]
 mod sinks;
 #[cfg(test)]

@@ -80,6 +80,14 @@ fn is_new_file(alloc: Global, tree: &MemTree, text: &str) -> Result<bool, TreeEr
     }
 }
 
+// A target on which a file has landed.
+fn landed_target(alloc: Global) -> Result<MemTarget, WriteError> {
+    let mut target = empty_target(alloc).map_err(|_| WriteError::Memory)?;
+    let parts = one_part(alloc, &mut target, b"hi")?;
+    land(alloc, &mut target, parts, "/d")?;
+    Ok(target)
+}
+
 #[test]
 fn a_part_is_counted_until_it_lands(rt: HostRuntime) -> Result<(), Fail> {
     let alloc = rt.alloc();
@@ -95,9 +103,7 @@ fn a_part_is_counted_until_it_lands(rt: HostRuntime) -> Result<(), Fail> {
 #[test]
 fn what_lands_is_a_new_file_and_recorded(rt: HostRuntime) -> Result<(), Fail> {
     let alloc = rt.alloc();
-    let mut target = empty_target(alloc)?;
-    let parts = one_part(alloc, &mut target, b"hi")?;
-    land(alloc, &mut target, parts, "/d")?;
+    let target = landed_target(alloc)?;
     assert_eq!(rt; has_landed(alloc, &target, "/d", 2), Ok(true));
     assert_eq!(rt; has_bytes(alloc, target.tree(), "/d", b"hi"), Ok(true));
     assert_eq!(rt; is_new_file(alloc, target.tree(), "/d"), Ok(true));

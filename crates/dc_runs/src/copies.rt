@@ -2,7 +2,7 @@
 #![tactic(auto)]
 
 use crate::entries::{Entry, Is};
-use crate::runs::{ends_with, landed_files, leaves, run};
+use crate::runs::{ends_and_leaves, ends_with, landed_files, leaves, run};
 use dc_attrs::TreeError;
 use dc_cli::{Counts, Outcome};
 use std::alloc::Global;
@@ -42,7 +42,7 @@ fn copies<R: Threads + Sync>(
     entries: &[Entry],
 ) -> Result<bool, TreeError> {
     let ran = run(rt, alloc, source, &[], text, None)?;
-    Ok(ends_with(&ran, 0, lines) && leaves(alloc, &ran, entries)?)
+    ends_and_leaves(alloc, &ran, 0, lines, entries)
 }
 
 #[test]

@@ -230,6 +230,14 @@ fn list_of(alloc: Global, has: bool, fail: Fail) -> Result<Fails, OutOfMemory> {
     Ok(Fails::new(alloc, list))
 }
 
+// An empty target with this entry in its list or in that of its desks, or in neither.
+fn failing_target(alloc: Global, on: On, fail: Fail) -> Result<MemTarget, TreeError> {
+    let tree = MemTree::new(alloc)?;
+    let own = list_of(alloc, on == On::Target, fail)?;
+    let desks = list_of(alloc, on == On::Desk, fail)?;
+    Ok(MemTarget::new(alloc, tree, own, desks))
+}
+
 // Runs with this entry in the list of this object.
 fn run_failing<R: Threads + Sync>(
     rt: &R,
@@ -241,10 +249,21 @@ fn run_failing<R: Threads + Sync>(
     let own = list_of(alloc, on == On::Source, fail)?;
     let forks = Fails::none(alloc);
     let mut source = MemSource::new(tree, &own, &forks);
-    let own = list_of(alloc, on == On::Target, fail)?;
-    let desks = list_of(alloc, on == On::Desk, fail)?;
-    let target = MemTarget::new(alloc, MemTree::new(alloc)?, own, desks);
+    let target = failing_target(alloc, on, fail)?;
     run_on(rt, alloc, &mut source, target, "/s /d", None)
+}
+
+// Whether the run with this entry in the list of this object comes to what the account says.
+fn comes_to<R: Threads + Sync>(
+    rt: &R,
+    alloc: Global,
+    tree: &MemTree,
+    on: On,
+    fail: Fail,
+    account: &Account,
+) -> Result<bool, TreeError> {
+    let ran = run_failing(rt, alloc, tree, on, fail)?;
+    came_to(alloc, &ran, account)
 }
 
 // Whether the runs come to their accounts in which the first, the second, and so on of the calls of a kind fail, up to the
@@ -259,8 +278,7 @@ fn each_call<R: Threads + Sync>(
     for nth in 1..=25u64 {
         let fail = Fail { nth, ..first };
         let account = account_of(on, fail);
-        let ran = run_failing(rt, alloc, tree, on, fail)?;
-        if !came_to(alloc, &ran, &account)? {
+        if !comes_to(rt, alloc, tree, on, fail, &account)? {
             return Ok(false);
         }
         if account.end == End::Committed {

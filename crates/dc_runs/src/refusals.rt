@@ -2,7 +2,7 @@
 #![tactic(auto)]
 
 use crate::entries::{Entry, Is};
-use crate::runs::{ends_with, leaves, run};
+use crate::runs::{ends_and_leaves, run};
 use dc_attrs::TreeError;
 use std::alloc::Global;
 use std::test::Fail;
@@ -19,7 +19,7 @@ fn refuses<R: Threads + Sync>(
     line: &str,
 ) -> Result<bool, TreeError> {
     let ran = run(rt, alloc, &SOURCE, target, text, None)?;
-    Ok(ends_with(&ran, 255, line) && leaves(alloc, &ran, target)?)
+    ends_and_leaves(alloc, &ran, 255, line, target)
 }
 
 // Words, and the line that a run of them ends with.

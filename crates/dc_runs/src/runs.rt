@@ -98,6 +98,17 @@ pub(crate) fn ends_with(ran: &Ran, code: u8, output: &str) -> bool {
     status(&ran.answer) == code && ran.sink.bytes() == output.as_bytes()
 }
 
+// Whether a run ended so, and left these entries and no temporary.
+pub(crate) fn ends_and_leaves(
+    alloc: Global,
+    ran: &Ran,
+    code: u8,
+    output: &str,
+    entries: &[Entry],
+) -> Result<bool, TreeError> {
+    Ok(ends_with(ran, code, output) && leaves(alloc, ran, entries)?)
+}
+
 // Whether this landed in the place of what stood there.
 fn has_landed(alloc: Global, landed: &Landed, text: &str, bytes: u64) -> Result<bool, OutOfMemory> {
     let path = landed.path.text(alloc)?;

@@ -11,6 +11,3 @@ pub mod laws;
 
 pub use by_count::dynamic;
 pub use by_size::uniform;
-
-#[cfg(test)]
-mod tests;

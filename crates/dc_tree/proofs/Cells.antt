@@ -172,19 +172,29 @@ pub same_nodes : (old new : List Cell) → cell_at new ≡ cell_at old → node 
 unfolding node
 same_nodes old new e = ap {B = ℕ → Option Node} (λ (f : ℕ → Cell) (k : ℕ). node_of (f k)) e
 
--- a new cell is hung at a link: room is made, the link is set, the cell is put
-module _ (old one two new : List Cell) (at c : ℕ) (name : List ℕ) (cell : Cell) (same : cell_at one ≡ cell_at old) (blank : cell_at one c ≡ GoneCell []) (dir : IsDirNode (node old at)) (bare : links_of cell ≡ []) (set : Links one at name (Some c) two) (put : Puts two c cell new) where
+-- a link that is set where cells are as before is set in what was before
+pub links_from : (old one new : List Cell) (at : ℕ) (name : List ℕ) (to : Option ℕ) → cell_at one ≡ cell_at old → Links one at name to new → Links old at name to new
+links_from old one new at name to kept h = record {
+  set = record {
+    here = h.set.here;
+    others = λ k x apart. h.set.others k x apart ∙ ap (λ (g : ℕ → List ℕ → Option ℕ). g k x) (same_links old one kept);
+  };
+  nodes = h.nodes ∙ same_nodes old one kept;
+}
+
+-- a new cell is hung at a link: the link is set, and the cell is put where nothing was
+module _ (old two new : List Cell) (at c : ℕ) (name : List ℕ) (cell : Cell) (blank : cell_at old c ≡ GoneCell []) (dir : IsDirNode (node old at)) (bare : links_of cell ≡ []) (set : Links old at name (Some c) two) (put : Puts two c cell new) where
   no_node : node old c ≡ None
-  no_node = node_is old c (GoneCell []) (sym (ap (λ (f : ℕ → Cell). f c) same) ∙ blank)
+  no_node = node_is old c (GoneCell []) blank
 
   no_links : (x : List ℕ) → link old c x ≡ None
-  no_links x = link_is old c (GoneCell []) x (sym (ap (λ (f : ℕ → Cell). f c) same) ∙ blank)
+  no_links x = link_is old c (GoneCell []) x blank
 
   not_dir : c ≡ at → ⊥
   not_dir e = let h : node old at ≡ None = sym (ap (node old) e) ∙ no_node in let d = dir.1 in cc
 
   two_bare : (x : List ℕ) → find x (links_of (cell_at two c)) ≡ None
-  two_bare x = sym (link_is two c (cell_at two c) x refl) ∙ set.set.others c x (λ e _. not_dir e) ∙ ap (λ (g : ℕ → List ℕ → Option ℕ). g c x) (same_links old one same) ∙ no_links x
+  two_bare x = sym (link_is two c (cell_at two c) x refl) ∙ set.set.others c x (λ e _. not_dir e) ∙ no_links x
 
   last : Nodes two c (node_of cell) new
   last = nodes_set two new c (cell_at two c) cell refl (λ x. ap (find x) bare ∙ sym (two_bare x)) put
@@ -192,21 +202,18 @@ module _ (old one two new : List Cell) (at c : ℕ) (name : List ℕ) (cell : Ce
   pub adds_link : link new at name ≡ Some c
   adds_link = ap (λ (g : ℕ → List ℕ → Option ℕ). g at name) last.links ∙ set.set.here
 
-  nodes_are : node two ≡ node old
-  nodes_are = set.nodes ∙ same_nodes old one same
-
   pub adds : Adds old at name (node_of cell) new
   adds = record {
     cell = c;
     nothing = no_node;
     bare = no_links;
     set = record {
-      here = ap (λ (g : ℕ → List ℕ → Option ℕ). g at name) last.links ∙ set.set.here;
-      others = λ k x apart. ap (λ (g : ℕ → List ℕ → Option ℕ). g k x) last.links ∙ set.set.others k x apart ∙ ap (λ (g : ℕ → List ℕ → Option ℕ). g k x) (same_links old one same);
+      here = adds_link;
+      others = λ k x apart. ap (λ (g : ℕ → List ℕ → Option ℕ). g k x) last.links ∙ set.set.others k x apart;
     };
     put = record {
       here = last.put.here;
-      others = λ k apart. last.put.others k apart ∙ ap (λ (n : ℕ → Option Node). n k) nodes_are;
+      others = λ k apart. last.put.others k apart ∙ ap (λ (n : ℕ → Option Node). n k) set.nodes;
     };
   }
 

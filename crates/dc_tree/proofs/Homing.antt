@@ -76,6 +76,10 @@ pub hung_homes : (old new : List Cell) (at : ℕ) (name : List ℕ) (v : Option 
 hung_homes old new at name v was now a f h r =
     homes_set (link old) (link new) (node new) was now at name a.cell f h a.set.here (λ k x c apart e. sym (a.set.others k x apart) ∙ e) (r a.cell a.set.here)
 
+-- a note is written where notes are as before
+pub rehomed_from : (old one new : List (Option Home)) (c : ℕ) (home : Home) → home_at one ≡ home_at old → Rehomed one new c home → Rehomed old new c home
+rehomed_from old one new c home same r = record { here = r.here; others = λ k apart. r.others k apart ∙ ap (λ (u : ℕ → Option Home). u k) same }
+
 -- the note of a new slot, of which room was made
 pub noted : (old mid new : List (Option Home)) (at : ℕ) (x name : List ℕ) (to c : ℕ) (o : Option ℕ) → o ≡ Some to → o ≡ Some c → x ≡ name → home_at mid ≡ home_at old → Rehomed mid new to (record { parent = at; name = x }) → Rehomed old new c (record { parent = at; name = name })
 noted old mid new at x name to c o e f n same r =

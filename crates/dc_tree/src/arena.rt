@@ -228,6 +228,57 @@ fn next_free(slots: &[Slot], at: usize) -> usize {
     }
 }
 
+// Sets the link of a name in a directory, and notes for the slot to which it leads where that hangs.
+fn hang_at(
+    alloc: Global,
+    slots: &mut Vec<Slot>,
+    homes: &mut Vec<Option<Home>>,
+    at: usize,
+    name: &Name,
+    place: usize,
+) -> Result<(), OutOfMemory>
+    requires dir { IsDirNode (node (map cell_of slots.old.items) at) }
+    requires room { place < length homes.old.items }
+    ensures ok { OnOk result (Links (map cell_of slots.old.items) at name.now (Some place) (map cell_of slots.new.items)) }
+    ensures len { length slots.new.items ≡ length slots.old.items }
+    ensures err { OnErr result (map cell_of slots.new.items ≡ map cell_of slots.old.items) }
+    ensures home { OnOk result (Rehomed homes.old.items homes.new.items place (record { parent = at; name = name.now })) }
+    ensures same_homes { OnErr result (homes.new.items ≡ homes.old.items) }
+{
+    let linked = name.copy(alloc)?;
+    let home = Home {
+        parent: at,
+        name: name.copy(alloc)?,
+    };
+    add_link(slots, at, linked, place)?;
+    set_home(homes, place, home);
+    Ok(())
+}
+
+// Takes the first free slot for a name in a directory: makes room where there is none, and hangs it there.
+fn take(
+    alloc: Global,
+    slots: &mut Vec<Slot>,
+    homes: &mut Vec<Option<Home>>,
+    free: &mut usize,
+    at: usize,
+    name: &Name,
+) -> Result<usize, OutOfMemory>
+    requires { IsDirNode (node (map cell_of slots.old.items) at) }
+    ensures within { IfOk result (λ place. place < length slots.new.items) }
+    ensures blank { IfOk result (λ place. cell_at (map cell_of slots.old.items) place ≡ GoneCell []) }
+    ensures ok { IfOk result (λ place. Links (map cell_of slots.old.items) at name.now (Some place) (map cell_of slots.new.items)) }
+    ensures err { OnErr result (cell_at (map cell_of slots.new.items) ≡ cell_at (map cell_of slots.old.items)) }
+    ensures home { IfOk result (λ place. Rehomed homes.old.items homes.new.items place (record { parent = at; name = name.now })) }
+    ensures same_homes { OnErr result (home_at homes.new.items ≡ home_at homes.old.items) }
+{
+    make_room(alloc, slots, free)?;
+    make_homes(homes, slots.len())?;
+    let place = *free;
+    hang_at(alloc, slots, homes, at, name, place)?;
+    Ok(place)
+}
+
 /// Hangs a new slot under a directory, and notes where it hangs.
 pub fn add(
     alloc: Global,
@@ -245,16 +296,7 @@ pub fn add(
     ensures home { OnOk result ((c : ℕ) → link (map cell_of slots.new.items) at name.now ≡ Some c → Rehomed homes.old.items homes.new.items c (record { parent = at; name = name.now })) }
     ensures same_homes { OnErr result (home_at homes.new.items ≡ home_at homes.old.items) }
 {
-    let copied = name.copy(alloc)?;
-    let home = Home {
-        parent: at,
-        name: name.copy(alloc)?,
-    };
-    make_room(alloc, slots, free)?;
-    make_homes(homes, slots.len())?;
-    let place = *free;
-    add_link(slots, at, copied, place)?;
-    set_home(homes, place, home);
+    let place = take(alloc, slots, homes, free, at, name)?;
     *free = next_free(slots, place);
     put_slot(slots, place, slot);
     Ok(())

@@ -3,7 +3,7 @@
 //! A note is kept beside each slot. Of a slot that was cut off it may be stale, and nobody reads it there.
 #![tactic(auto)]
 
-ghost use Rattle.std.specs.Prelude.{◌≡◌, ℕ, ◌≤◌, ◌<◌, length, IfOk, OnOk};
+ghost use Rattle.std.specs.Prelude.{◌≡◌, ◌≤◌, ◌<◌, length, IfOk, OnOk};
 ghost use Rattle.std.specs.Option.{option_copied};
 ghost use Rattle.dc_tree.specs.Homes.{home_at, Rehomed};
 

@@ -7,6 +7,3 @@ mod same;
 mod tree;
 
 pub use tree::MemTree;
-
-#[cfg(test)]
-mod tests;

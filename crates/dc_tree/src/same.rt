@@ -4,7 +4,7 @@
 //! hang to the next name. So the walk needs neither memory nor the stack, however deep the parts are.
 #![tactic(auto)]
 
-ghost use Rattle.std.specs.Prelude.{◌≡◌, ℕ, ◌+◌, ◌<◌, List, [], map, length, true, false, Some, None, nat_eq, ◌||◌};
+ghost use Rattle.std.specs.Prelude.{◌≡◌, ℕ, ◌+◌, ◌<◌, map, length, true, false, Some, None, nat_eq, ◌||◌};
 ghost use Rattle.std.specs.Option.{option_copied, option_eq, is_some};
 ghost use Rattle.std.specs.Cmp.Lexicographic.{pointwise};
 ghost use Rattle.dc_path.specs.Names.{same_name};

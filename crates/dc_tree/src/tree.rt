@@ -1,7 +1,7 @@
 //! A tree in memory: its calls.
 #![tactic(auto)]
 
-ghost use Rattle.std.specs.Prelude.{◌≡◌, ◌≢◌, ℕ, Some, None, [], true, false, IsTrue, IsSome, IfErr, IfOk, OnOk, OnErr};
+ghost use Rattle.std.specs.Prelude.{◌≡◌, ◌≢◌, ℕ, length, Some, None, [], true, false, IsTrue, IsSome, IfErr, IfOk, OnOk, OnErr};
 ghost use Rattle.std.specs.Option.{option_copied, is_some};
 ghost use Rattle.dc_path.specs.Paths.{Names, cut};
 ghost use Rattle.dc_attrs.specs.Attributes.{default_dir, fits_file, fits_dir};
@@ -11,7 +11,6 @@ ghost use Rattle.dc_tree.specs.Arena.{cell_of, node_of, links_of, node, tree_of,
 ghost use Rattle.dc_tree.specs.Children.{IsNames, AreChildren};
 ghost use Rattle.dc_tree.specs.Edits.{Nodes};
 ghost use Rattle.dc_tree.specs.Fitting.{is_fitting, fits_at, HasFittingAttrs};
-ghost use Rattle.dc_tree.specs.Homes.{AreHomes};
 ghost use Rattle.dc_tree.specs.Same.{SameUnder, DiffersUnder};
 ghost use Rattle.dc_tree.specs.Walking.{SameBelow, DiffersBelow};
 ghost use Rattle.dc_tree.specs.Places.{FitsPlace, IsVacant, IsTaken};
@@ -71,6 +70,14 @@ impl MemTree {
             free: 0,
             alloc,
         })
+    }
+
+    /// How many slots the tree has: one for each node, and those of removed nodes that no new node has taken yet. Its memory
+    /// goes by it.
+    pub fn slots(&self) -> usize
+        ensures { result ≡ length self.now }
+    {
+        self.slots.len()
     }
 
     // What is at a path, and under what.
@@ -571,13 +578,5 @@ impl MemTree {
             free: self.free,
             alloc,
         })
-    }
-}
-
-#[cfg(test)]
-impl MemTree {
-    // How many slots the arena has.
-    pub(crate) fn slot_count(&self) -> usize {
-        self.slots.len()
     }
 }

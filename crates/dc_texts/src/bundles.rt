@@ -1,10 +1,11 @@
-//! Each call on records worked out by hand, with ample memory.
+//! Bundles of records, worked out by hand, with ample memory.
+#![tactic(auto)]
 
 ghost use Rattle.std.specs.Prelude.{◌≤◌, ◌<◌, ◌^◌, length};
 
-use crate::laws::bundle_laws;
-use crate::{dynamic, uniform};
 use dc_path::{List, OutOfMemory};
+use dc_split::laws::bundle_laws;
+use dc_split::{dynamic, uniform};
 use std::alloc::Global;
 use std::test::Fail;
 

@@ -1,6 +1,7 @@
-//! Each call on values worked out by hand, with ample memory.
+//! Patterns that exclude paths, worked out by hand, with ample memory.
+#![tactic(auto)]
 
-use crate::{BuildError, Filter, FilterError, Patterns, RegexPatterns};
+use dc_filter::{BuildError, Filter, FilterError, Patterns, RegexPatterns};
 use dc_path::Path;
 use std::alloc::{AllocError, Global};
 use std::test::Fail;

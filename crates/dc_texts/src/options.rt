@@ -1,6 +1,7 @@
-//! Word lists and what they are read as, worked out by hand.
+//! The words of command lines and what they are read as, worked out by hand.
+#![tactic(auto)]
 
-use crate::{OptionError, Options, Strategy, SyncBy};
+use dc_options::{OptionError, Options, Strategy, SyncBy};
 use dc_path::{List, OutOfMemory, Path, Text};
 use std::alloc::{AllocError, Global};
 use std::test::Fail;

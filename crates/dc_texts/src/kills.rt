@@ -1,6 +1,7 @@
-//! Texts worked out by hand, with ample memory.
+//! Kill plans, worked out by hand, with ample memory.
+#![tactic(auto)]
 
-use crate::{KillPlan, PlanError, Stop};
+use dc_kills::{KillPlan, PlanError, Stop};
 use std::alloc::{AllocError, Global};
 use std::test::Fail;
 
