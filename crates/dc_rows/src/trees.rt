@@ -1,7 +1,7 @@
 //! Trees in memory: each call, and what it leaves.
 #![tactic(auto)]
 
-use crate::fixtures::{has_bytes, make_dir, path, put, rename, small_tree};
+use crate::fixtures::{extend, has_bytes, make_dir, path, put, rename, small_tree};
 use dc_attrs::{Attrs, Seen, TreeError};
 use dc_tree::MemTree;
 use std::alloc::Global;
@@ -139,17 +139,27 @@ fn attributes_are_set_where_something_stands(rt: HostRuntime) -> Result<(), Fail
     Ok(())
 }
 
+// Removes what stands in the small tree, and puts the same there again, with other calls between.
+fn replace(alloc: Global, tree: &mut MemTree) -> Result<(), TreeError> {
+    remove(alloc, tree, "/a/f")?;
+    remove(alloc, tree, "/a")?;
+    put(alloc, tree, "/g", b"1")?;
+    extend(alloc, tree, "/g", b"2")?;
+    make_dir(alloc, tree, "/b")?;
+    renew(alloc, tree, "/b")?;
+    rename(alloc, tree, "/b", "/a")?;
+    put(alloc, tree, "/a/f", b"1")
+}
+
 #[test]
 fn removed_slots_are_used_again(rt: HostRuntime) -> Result<(), Fail> {
     let alloc = rt.alloc();
     let mut tree = small_tree(alloc)?;
+    put(alloc, &mut tree, "/g", b"1")?;
     for _ in 0..3 {
-        remove(alloc, &mut tree, "/a")?;
-        make_dir(alloc, &mut tree, "/b")?;
-        put(alloc, &mut tree, "/b/g", b"1")?;
-        rename(alloc, &mut tree, "/b", "/a")?;
+        replace(alloc, &mut tree)?;
     }
-    assert_eq!(rt; tree.slots(), 3);
+    assert_eq!(rt; tree.slots(), 4);
     Ok(())
 }
 
