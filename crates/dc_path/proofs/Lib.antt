@@ -8,3 +8,6 @@ pub mod LawProofs
 pub mod Texts
 pub mod LineLemmas
 pub mod NumberLemmas
+pub mod PathOrder
+pub mod Fronts
+pub mod LimitLemmas

@@ -22,7 +22,8 @@ module _ (p : ℕ → Bool) where
   behind false n m h = omega arith
   behind true n m h = absurd (omega arith)
 
-  none_passes : (xs : List ℕ) → length xs ≤ position_or_len p xs → All (λ x. p x ≡ false) xs
+  -- where the search comes to the end, no element passes
+  pub none_passes : (xs : List ℕ) → length xs ≤ position_or_len p xs → All (λ x. p x ≡ false) xs
   none_passes [] h = All-nil (λ x. p x ≡ false)
   none_passes (x ∷ xs) h = All-cons (λ x. p x ≡ false) x xs (no_hit (p x) _ _ h) (none_passes xs (behind (p x) _ _ h))
 

@@ -5,10 +5,12 @@ use Rattle.std.specs.List.{list_all}
 use Rattle.std.specs.Result.{OkIff, result_ok}
 use Rattle.std.specs.Str.{IsUtf8}
 use Rattle.std.specs.Str.Parse.{digits_value, ParsesUnsigned}
+use Rattle.std.specs.Fmt.{decimal}
+use Rattle.std.proofs.lemmas.Fmt.{digits_decimal, digits_value-decimal, decimal_nonempty}
 use Rattle.std.proofs.lemmas.Str.{IsUtf8-from_ascii}
 use Rattle.std.proofs.lemmas.Str.Ascii.{IsAscii-from_all}
 use Rattle.std.proofs.lemmas.Str.Parse.{IsNumeralModel, IsDigitsTest, numerals_by_value, parse_digits}
-use Rattle.std.proofs.lemmas.Bool.{leb-true}
+use Rattle.std.proofs.lemmas.Bool.{leb-true, and_parts}
 use Rattle.std.proofs.lemmas.Bool.Decides.{nat_tests}
 use Rattle.std.proofs.lemmas.List.Elements.{All-nil, All-cons}
 use borrow.Author.Tests.{leb-false}
@@ -29,19 +31,13 @@ number_is text (Err e) p h = grind (arith, rules, p, h)
 pub number_parsed : {E : Type 0} (text : List ℕ) (r : Result ℕ E) → list_all is_ascii_digit text ≡ true → ParsesUnsigned 64 10 text r → result_ok r ≡ number_in 0 18446744073709551615 text
 number_parsed text r p h = number_is text r p (parse_digits own_digits 64 text r h p)
 
--- digits are UTF-8
-both : (m n : Bool) → (m && n) ≡ true → (m ≡ true) × (n ≡ true)
-both true true h = (refl, refl)
-both true false h = absurd (cc)
-both false n h = absurd (cc)
-
 digit_small : (b : ℕ) → is_ascii_digit b ≡ true → b < 128
 digit_small b h = grind (arith, nat_tests)
 
 digits_small : (text : List ℕ) → list_all is_ascii_digit text ≡ true → All (λ b. b < 128) text
 digits_small [] h = All-nil (λ b. b < 128)
 digits_small (b ∷ text) h =
-    let parts = both (is_ascii_digit b) (list_all is_ascii_digit text) h in
+    let parts = and_parts (is_ascii_digit b) (list_all is_ascii_digit text) h in
     All-cons (λ b. b < 128) b text (digit_small b parts.0) (digits_small text parts.1)
 
 pub digits_utf8 : (text : List ℕ) → list_all is_ascii_digit text ≡ true → IsUtf8 text
@@ -98,3 +94,15 @@ unfolding number_in
 number_in-between least most text =
     bounded (list_all is_ascii_digit text) (nat_lt 0 (length text)) (nat_le least (digits_value 10 text)) (nat_le (digits_value 10 text) most) least most (digits_value 10 text)
     (leb-true least (digits_value 10 text)) (leb-true (digits_value 10 text) most)
+
+-- ---- numbers as they are written
+pub decimal_digits : (n : ℕ) → n < 2 ^ 64 → list_all is_ascii_digit (decimal n) ≡ true
+decimal_digits n h = digits_decimal own_digits n h
+
+pub number_in-decimal : (most n : ℕ) → n ≤ most → n < 2 ^ 64 → number_in 0 most (decimal n) ≡ Some n
+unfolding number_in
+number_in-decimal most n h k =
+    let d = decimal_digits n k in
+    let l = decimal_nonempty n k in
+    let v : digits_value 10 (decimal n) ≡ n = digits_value-decimal own_digits n k in
+    grind (arith, rules, d, l, v)

@@ -2,13 +2,15 @@
 use Rattle.std.proofs.Common.{◌≡◌, ℕ, List, [], ◌∷◌, ◌++◌, Bool, true, false, cond, Some, None, length, refl, sym, ◌∙◌, ap, subst, arith, append_assoc, ◌⊎◌, inl, inr, length-append}
 use Rattle.std.proofs.lemmas.List.{append-nil}
 use Rattle.std.specs.Bool.{Decides}
-use Rattle.std.specs.Cmp.Lexicographic.{bytes_decides, pointwise_decides}
+use Rattle.std.specs.Cmp.Lexicographic.{bytes_decides, pointwise_decides, lists_ties, slice_cmp, texts_ties}
 use Rattle.std.specs.Option.{is_some}
 use Rattle.std.specs.List.{starts_with}
 use Rattle.std.proofs.Common.{nat_eq, ◌&&◌, take, drop, ◌-◌, slice_get, zero, suc, Option}
 use Rattle.std.specs.Cmp.Lexicographic.{pointwise}
 use Rattle.dc_path.specs.Names.{same_name}
-use Rattle.dc_path.specs.Paths.{Names, same_path, cut, is_under, front_of}
+use Rattle.dc_path.specs.Paths.{Names, same_path, cut, is_under, front_of, path_cmp, parent_of, at_cut, is_root}
+use Rattle.std.proofs.lemmas.Bool.Decides.{nat_tests}
+use Rattle.std.specs.Ordering.{is_eq, nat_cmp}
 
 -- ---- names and paths that are the same
 pub name_decides : (x y : List ℕ) → Decides (same_name x y) (x ≡ y)
@@ -175,7 +177,7 @@ is_under-starts_with [] path = refl
 is_under-starts_with (x ∷ front) [] = refl
 is_under-starts_with (x ∷ front) (y ∷ path) = under_at (same_name x y) (starts_with (pointwise nat_eq) path front) (cut front path) (is_under-starts_with front path)
 
-some_rest : (o : Option Names) → is_some o ≡ true → (r : Names) × (o ≡ Some r)
+pub some_rest : (o : Option Names) → is_some o ≡ true → (r : Names) × (o ≡ Some r)
 some_rest None e = cc
 some_rest (Some r) e = (r, refl)
 
@@ -224,3 +226,98 @@ ends_in (y ∷ p) x e = ends_at (y ∷ p) x (length (y ∷ p) - 1) (omega arith)
 
 -- what std's test of a front says of the cut
 pub ruleset fronts = (is_under-starts_with, cut-starts_with, cut-apart)
+
+-- ---- the tests of sameness the other way round, and by the order
+
+-- the test of two names is the same the other way round
+-- names
+pub same_name-flip : (x y : List ℕ) → same_name x y ≡ same_name y x
+same_name-flip [] [] = refl
+same_name-flip [] (b ∷ y) = refl
+same_name-flip (a ∷ x) [] = refl
+same_name-flip (a ∷ x) (b ∷ y) = let ih = same_name-flip x y in grind (arith, nat_tests, ih)
+
+-- paths that tie are the same
+pub ties_same : (p q : Names) → is_eq (path_cmp p q) ≡ same_path p q
+ties_same p q = sym (lists_ties (slice_cmp nat_cmp) texts_ties p q)
+
+flip_at : (p q : Names) (a b : Bool) → same_path p q ≡ a → same_path q p ≡ b → a ≡ b
+flip_at p q true true e f = refl
+flip_at p q false false e f = refl
+flip_at p q true false e f = let k : same_path q p ≡ true = (path_decides q p).1 (sym ((path_decides p q).0 e)) in sym k ∙ f
+flip_at p q false true e f = let k : same_path p q ≡ true = (path_decides p q).1 (sym ((path_decides q p).0 f)) in sym e ∙ k
+
+pub same_path-flip : (p q : Names) → same_path p q ≡ same_path q p
+same_path-flip p q = flip_at p q (same_path p q) (same_path q p) refl refl
+
+pub same_key : (p q : Names) → is_eq (path_cmp p q) ≡ true → p ≡ q
+same_key p q e = same_path-true p q (sym (ties_same p q) ∙ e)
+
+-- ---- the parent, and the last name
+
+pub parent_of-append : (p : Names) (x : List ℕ) → parent_of (p ++ x ∷ []) ≡ Some p
+parent_of-append [] x = refl
+parent_of-append (y ∷ p) x = ap Some (front_of-append (y ∷ p) x)
+
+-- a path with a last name, taken apart
+pub record Ended (p : Names) : Type 0 where
+  pub front : Names
+  pub name : List ℕ
+  pub path : p ≡ front ++ name ∷ []
+
+-- a path with a name has a last one
+pub ended_cons : (x : List ℕ) (p : Names) → Ended (x ∷ p)
+ended_cons x p = by_last (last_case (x ∷ p))
+  where
+    by_last : Last (x ∷ p) → Ended (x ∷ p)
+    by_last (empty e) = absurd (cc)
+    by_last (ended front name e) = record { front = front; name = name; path = e }
+
+-- the path before the last name is the parent
+pub ended_by : (p front : Names) → parent_of p ≡ Some front → (k : Ended p) × (k.front ≡ front)
+ended_by p front h = by (last_case p)
+  where
+    by : Last p → (k : Ended p) × (k.front ≡ front)
+    by (empty i) = let k : None ≡ Some front = rw i at h in absurd (cc)
+    by (ended q x i) = let k : Some q ≡ Some front = sym (parent_of-append q x) ∙ rw i at h in let e : q ≡ front = cc in (record { front = q; name = x; path = i }, e)
+
+-- ---- what is cut, further
+
+-- a front of two parts is cut part by part
+pub cut_under : (d p q : Names) → cut (d ++ p) q ≡ at_cut (cut d q) None (cut p)
+cut_under [] p q = refl
+cut_under (x ∷ d) p [] = refl
+cut_under (x ∷ d) p (y ∷ q) = let ih = cut_under d p q in elim (same_name x y) as (λ b. cond b (cut (d ++ p) q) None ≡ at_cut (cond b (cut d q) None) None (cut p)) [ true ↦ ih | false ↦ refl ]
+
+-- a path that is under something is not the root
+pub below_root : (d p : Names) → cut p [] ≡ None → cut (d ++ p) [] ≡ None
+below_root [] p e = e
+below_root (x ∷ d) p e = refl
+
+-- what is no front of one path is not the root
+pub cut_root_from : (a b : Names) → cut a b ≡ None → cut a [] ≡ None
+cut_root_from [] b e = absurd (cc)
+cut_root_from (x ∷ a) b e = refl
+
+cut_front_at : (d p s : Names) (o : Option Names) → cut d p ≡ o → cut d (p ++ s) ≡ None → o ≡ None
+cut_front_at d p s None e h = refl
+cut_front_at d p s (Some r) e h = let k : Some (r ++ s) ≡ None = sym (cut-append d (r ++ s)) ∙ ap (cut d) (sym (append_assoc d r s) ∙ ap (λ (q : Names). q ++ s) (sym (append-cut d p r e))) ∙ h in cc
+
+-- what is no front of a path is none of the path's fronts
+pub cut_front : (d p s : Names) → cut d (p ++ s) ≡ None → cut d p ≡ None
+cut_front d p s h = cut_front_at d p s (cut d p) refl h
+
+-- a rest that is there where a test holds
+pub at_cond : {X : Type 0} (b : Bool) (r : Names) (u : X) (f : Names → X) → at_cut (cond b (Some r) None) u f ≡ cond b (f r) u
+at_cond true r u f = refl
+at_cond false r u f = refl
+
+pub root_is : (d : Names) → is_root d ≡ true → d ≡ []
+root_is [] e = refl
+root_is (x ∷ d) e = absurd (cc)
+
+-- a path is under none that is longer
+pub not_under : (p : Names) (x : List ℕ) (s t : Names) → p ≡ (p ++ x ∷ s) ++ t → ⊥
+not_under p x s t e =
+    let k : length p ≡ length ((p ++ x ∷ s) ++ t) = ap length e in
+    omega (arith, k, length-append (p ++ x ∷ s) t, length-append p (x ∷ s))

@@ -10,3 +10,4 @@ pub mod Laws
 pub mod Lines
 pub mod Numbers
 pub mod Causes
+pub mod Words

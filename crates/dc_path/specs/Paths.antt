@@ -1,7 +1,7 @@
 -- Paths as lists of names (POSIX.1, "Pathname", without `.` and `..`): limits, texts, order, prefixes.
-use Rattle.std.specs.Prelude.{ℕ, Bool, true, false, cond, List, [], ◌∷◌, ◌-◌, length, nat_eq, ◌≤◌, IsTrue, Option, Some, None, take, ◌&&◌}
+use Rattle.std.specs.Prelude.{ℕ, Bool, true, false, cond, List, [], ◌∷◌, ◌-◌, length, nat_eq, nat_le, ◌≤◌, IsTrue, Option, Some, None, take, ◌&&◌}
 use Rattle.std.specs.Option.{is_some}
-use Rattle.std.specs.List.{flat_map, list_all}
+use Rattle.std.specs.List.{flat_map, list_all, list_any}
 use Rattle.std.specs.Cmp.Lexicographic.{pointwise, slice_cmp}
 use Rattle.std.specs.Ordering.{nat_cmp}
 use Rattle.std.specs.declared.cmp.Ordering.{Ordering}
@@ -24,11 +24,27 @@ text_of (name ∷ names) = joined (name ∷ names)
 abbrev pub dotted_of : Names → List ℕ
 dotted_of names = 46 ∷ joined names
 
--- the limits of a `Path`: 256 names, and 4,096 bytes of text
+-- the most names of a `Path`, and the most bytes of its text
+abbrev pub max_names : ℕ
+max_names = 256
+
+abbrev pub max_bytes : ℕ
+max_bytes = 4096
+
+-- a list of names within the limits of a `Path`
+pub record IsWithin (names : Names) : Type 0 where
+  pub few : length names ≤ max_names
+  pub short : length (joined names) ≤ max_bytes
+
+-- the same as a test
+abbrev pub fits : Names → Bool
+fits names = nat_le (length names) max_names && nat_le (length (joined names)) max_bytes
+
+-- what a `Path` is
 pub record IsPath (names : Names) : Type 0 where
   pub named : IsTrue (list_all is_name names)
-  pub few : length names ≤ 256
-  pub short : length (joined names) ≤ 4096
+  pub few : length names ≤ max_names
+  pub short : length (joined names) ≤ max_bytes
 
 -- the order of paths: name by name by bytes, a prefix first
 abbrev pub path_cmp : Names → Names → Ordering
@@ -73,3 +89,7 @@ is_above [] [] = false
 is_above [] (y ∷ path) = true
 is_above (x ∷ front) [] = false
 is_above (x ∷ front) (y ∷ path) = same_name x y && is_above front path
+
+-- one of the names of the path is this one
+abbrev pub has_name : List ℕ → Names → Bool
+has_name name path = list_any (same_name name) path

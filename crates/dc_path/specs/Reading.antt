@@ -4,7 +4,7 @@ use Rattle.std.specs.List.{slice_split, prefix_len}
 use Rattle.dc_path.specs.declared.path.PathError.{PathError}
 use Rattle.dc_path.specs.declared.path.PathError.TheVariants.{Empty, Relative, BadName, TooDeep, TooLong}
 use Rattle.dc_path.specs.Names.{is_name}
-use Rattle.dc_path.specs.Paths.{Names, joined, cut}
+use Rattle.dc_path.specs.Paths.{Names, joined, cut, max_names, max_bytes}
 
 -- a part between two `/` that has bytes
 abbrev pub is_filled : List ℕ → Bool
@@ -17,8 +17,8 @@ parts_of text = filter is_filled (slice_split (λ byte. byte == 47) text)
 -- a path within the limits of depth and length, or the first limit that it passes
 abbrev pub within_limits : Names → Result Names PathError
 within_limits names =
-    if nat_lt 256 (length names) then Err TooDeep else
-    if nat_lt 4096 (length (joined names)) then Err TooLong else Ok names
+    if nat_lt max_names (length names) then Err TooDeep else
+    if nat_lt max_bytes (length (joined names)) then Err TooLong else Ok names
 
 -- an answer with a path, as one that may have none
 abbrev pub some_path : Result Names PathError → Result (Option Names) PathError
@@ -38,7 +38,7 @@ grafted front to path = followed_by to (cut front path)
 abbrev pub path_of : List (List ℕ) → Result Names PathError
 path_of parts =
     let good = prefix_len is_name parts in
-    if nat_lt good (length parts) && nat_le good 256 then Err (BadName good) else within_limits parts
+    if nat_lt good (length parts) && nat_le good max_names then Err (BadName good) else within_limits parts
 
 -- the path that a text reads as
 abbrev pub path_from : List ℕ → Result Names PathError

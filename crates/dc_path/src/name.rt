@@ -10,6 +10,7 @@ use crate::{OutOfMemory, PathError};
 use std::alloc::{AllocError, Global};
 use std::cmp::Ordering;
 use std::marker::Model;
+use std::sync::ArcStr;
 
 /// A name of a directory or a file, seen as the list of its bytes (POSIX.1, "Filename").
 ///
@@ -18,18 +19,19 @@ use std::marker::Model;
 /// Names are ordered by their bytes as numbers, a prefix first.
 #[derive(Drop)]
 pub struct Name {
-    content: String,
+    content: ArcStr,
 }
 
 impl Model for Name {
-    ghost use Rattle.std.specs.Prelude.{List, ℕ, string_bytes, IsTrue};
+    ghost use Rattle.std.specs.Prelude.{List, ℕ, IsTrue};
+    ghost use Rattle.std.specs.Arc.{arc_str_bytes};
     ghost use Rattle.dc_path.specs.Names.{is_name};
 
     ghost Value = { List ℕ };
 
-    ghost view = { λ n. string_bytes n.content };
+    ghost view = { λ n. arc_str_bytes n.content };
 
-    ghost invariant = { λ n. IsTrue (is_name (string_bytes n.content)) };
+    ghost invariant = { λ n. IsTrue (is_name (arc_str_bytes n.content)) };
 }
 
 // Whether each byte may stand in a name: none is `/` or 0.
@@ -69,7 +71,7 @@ impl Name {
         if !test_name(text) {
             return Err(PathError::BadName { place: 0 });
         }
-        let content = String::from_str(alloc, text)?;
+        let content = ArcStr::from_str(alloc, text)?;
         Ok(Name { content })
     }
 
@@ -81,11 +83,11 @@ impl Name {
         self.content.as_str()
     }
 
-    /// A name of the same bytes. `OutOfMemory` is the one error.
+    /// A name of the same bytes, which it shares: it takes no memory. `OutOfMemory` is the one error.
     pub fn copy(&self, alloc: Global) -> Result<Name, OutOfMemory>
         ensures { IfOk result (λ n. n ≡ self.now) }
     {
-        let content = String::from_str(alloc, self.content.as_str())?;
+        let content = self.content.clone()?;
         Ok(Name { content })
     }
 }

@@ -4,7 +4,7 @@
 ghost use Rattle.std.specs.Prelude.{◌≡◌, ℕ, ◌+◌, ◌-◌, ◌<◌, ◌≤◌, [], ◌∷◌, ◌++◌, List, length, take, drop, IfOk, OnOk, OnErr, Ok, Err, Some, None, IsTrue, IsNone, slice_get, string_bytes, if◌then◌else◌, MatchOption};
 ghost use Rattle.std.specs.Option.{option_copied};
 ghost use Rattle.dc_path.specs.Names.{is_name};
-ghost use Rattle.dc_path.specs.Paths.{joined, text_of, dotted_of, IsPath, path_cmp, is_under, cut, parent_of};
+ghost use Rattle.dc_path.specs.Paths.{joined, text_of, dotted_of, max_names, max_bytes, IsPath, IsWithin, path_cmp, is_under, cut, parent_of};
 
 use crate::{List, Name, OutOfMemory, Text, test_name};
 use std::alloc::{AllocError, Global};
@@ -139,7 +139,7 @@ impl Path {
             }
             let name = Name::read(alloc, part)?;
             bytes += part.len() + 1;
-            names.push(name).map_err(|_| PathError::Memory)?;
+            names.add(name)?;
         }
         if bytes > MAX_BYTES {
             return Err(PathError::TooLong);
@@ -163,6 +163,13 @@ impl Path {
         self.names.get(place)
     }
 
+    /// The names in order, that below the root first.
+    pub fn names(&self) -> &[Name]
+        ensures { result.now ≡ self.now }
+    {
+        self.names.as_slice()
+    }
+
     /// The last name; `None` for the root.
     pub fn last(&self) -> Option<&Name>
         ensures { option_copied result ≡ slice_get self.now (length self.now - 1) }
@@ -172,14 +179,14 @@ impl Path {
 
     // Adds a copy of a name at the end, where the limits leave room for it.
     fn push(&mut self, alloc: Global, name: &Name) -> Result<(), OutOfMemory>
-        requires few { length self.old < 256 }
-        requires short { length (joined self.old) + (length name.now + 1) ≤ 4096 }
+        requires few { length self.old < max_names }
+        requires short { length (joined self.old) + (length name.now + 1) ≤ max_bytes }
         ensures ok { OnOk result (self.new ≡ self.old ++ name.now ∷ []) }
         ensures err { OnErr result (self.new ≡ self.old) }
     {
         let copied = name.copy(alloc)?;
         let more = name.as_str().len() + 1;
-        self.names.push(copied).map_err(|_| OutOfMemory)?;
+        self.names.add(copied)?;
         self.bytes += more;
         Ok(())
     }
@@ -187,8 +194,8 @@ impl Path {
     // Adds copies of names at the end, where the limits leave room for them.
     #[tactic(auto, using(crate::proofs::Joins::joins))]
     fn push_all(&mut self, alloc: Global, names: &[Name]) -> Result<(), OutOfMemory>
-        requires few { length self.old + length names.now ≤ 256 }
-        requires short { length (joined self.old) + length (joined names.now) ≤ 4096 }
+        requires few { length self.old + length names.now ≤ max_names }
+        requires short { length (joined self.old) + length (joined names.now) ≤ max_bytes }
         ensures { OnOk result (self.new ≡ self.old ++ names.now) }
     {
         for name in names {
@@ -197,13 +204,32 @@ impl Path {
         Ok(())
     }
 
+    // The root, with room for a number of names to come.
+    fn with_room(alloc: Global, count: usize) -> Result<Path, OutOfMemory>
+        ensures { IfOk result (λ p. p ≡ []) }
+    {
+        let names = Vec::with_capacity(alloc, count)?;
+        Ok(Path {
+            names: List::of(names),
+            bytes: 0,
+        })
+    }
+
+    // A path of the same names, with room for more of them.
+    fn copy_with_room(&self, alloc: Global, more: usize) -> Result<Path, OutOfMemory>
+        requires { more ≤ max_names }
+        ensures { IfOk result (λ p. p ≡ self.now) }
+    {
+        let mut path = Path::with_room(alloc, self.names.len() + more)?;
+        path.push_all(alloc, self.names.as_slice())?;
+        Ok(path)
+    }
+
     /// A path of the same names. `OutOfMemory` is the one error.
     pub fn copy(&self, alloc: Global) -> Result<Path, OutOfMemory>
         ensures { IfOk result (λ p. p ≡ self.now) }
     {
-        let mut path = Path::root(alloc);
-        path.push_all(alloc, self.names.as_slice())?;
-        Ok(path)
+        self.copy_with_room(alloc, 0)
     }
 
     /// The path without its last name; `None` for the root. `OutOfMemory` is the one error.
@@ -215,9 +241,20 @@ impl Path {
         if count == 0 {
             return Ok(None);
         }
-        let mut path = Path::root(alloc);
+        let mut path = Path::with_room(alloc, count - 1)?;
         path.push_all(alloc, &self.names.as_slice()[..count - 1])?;
         Ok(Some(path))
+    }
+
+    /// The path with one name more at its end, where that is within the limits. `OutOfMemory` is the one error.
+    #[tactic(auto, using(crate::proofs::Joins::joins))]
+    pub fn child_within(&self, alloc: Global, name: &Name) -> Result<Path, OutOfMemory>
+        requires { IsWithin (self.now ++ name.now ∷ []) }
+        ensures { IfOk result (λ path. path ≡ self.now ++ name.now ∷ []) }
+    {
+        let mut path = self.copy_with_room(alloc, 1)?;
+        path.push(alloc, name)?;
+        Ok(path)
     }
 
     /// The path with one name more at its end.
@@ -238,8 +275,17 @@ impl Path {
         if self.bytes + more > MAX_BYTES {
             return Err(PathError::TooLong);
         }
-        let mut path = self.copy(alloc)?;
-        path.push(alloc, name)?;
+        Ok(self.child_within(alloc, name)?)
+    }
+
+    /// The path followed by the names of another, where that is within the limits. `OutOfMemory` is the one error.
+    #[tactic(auto, using(crate::proofs::Joins::joins))]
+    pub fn join_within(&self, alloc: Global, rel: &Path) -> Result<Path, OutOfMemory>
+        requires { IsWithin (self.now ++ rel.now) }
+        ensures { IfOk result (λ path. path ≡ self.now ++ rel.now) }
+    {
+        let mut path = self.copy_with_room(alloc, rel.names.len())?;
+        path.push_all(alloc, rel.names.as_slice())?;
         Ok(path)
     }
 
@@ -260,9 +306,7 @@ impl Path {
         if self.bytes + rel.bytes > MAX_BYTES {
             return Err(PathError::TooLong);
         }
-        let mut path = self.copy(alloc)?;
-        path.push_all(alloc, rel.names.as_slice())?;
-        Ok(path)
+        Ok(self.join_within(alloc, rel)?)
     }
 
     /// Whether the path begins with all names of another. Each path begins with the root and with itself.
@@ -282,7 +326,7 @@ impl Path {
         if !self.names.as_slice().starts_with(front.names.as_slice()) {
             return Ok(None);
         }
-        let mut rest = Path::root(alloc);
+        let mut rest = Path::with_room(alloc, self.names.len() - front.names.len())?;
         rest.push_all(alloc, &self.names.as_slice()[front.names.len()..])?;
         Ok(Some(rest))
     }
