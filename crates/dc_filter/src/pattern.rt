@@ -2,8 +2,8 @@
 #![tactic(auto)]
 
 ghost use Rattle.std.specs.Prelude.{◌≡◌, ◌≢◌, ℕ, ◌≤◌, false, IfOk, IfErr, OnOk, IsErrOf, IsTrue};
-ghost use Rattle.dc_path.specs.Causes.{raised, Rose};
-ghost use Rattle.dc_filter.specs.Building.{is_told, is_due, with_build, with_refusal};
+ghost use Rattle.dc_path.specs.Causes.{has_come, raised, Rose};
+ghost use Rattle.dc_filter.specs.Building.{is_due, with_build, with_refusal};
 ghost use Rattle.dc_filter.specs.Forms.{is_pattern};
 
 use crate::Search;
@@ -125,7 +125,7 @@ impl RegexPatterns {
 
     // Whether the build that was counted last is to be refused for size.
     fn is_told(&self) -> bool
-        ensures { result ≡ is_told self.now.refuse_at self.now.builds }
+        ensures { result ≡ has_come self.now.refuse_at self.now.builds }
     {
         match self.refuse_at {
             Some(first) => first <= self.builds,

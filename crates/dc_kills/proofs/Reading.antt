@@ -16,6 +16,7 @@ use Rattle.dc_kills.specs.Entries.{Attempt, Entry, entry_from}
 use Rattle.dc_kills.specs.Plans.{is_same, stop_in, stop_of, attempt_cmp}
 use Rattle.dc_kills.specs.Faults.{fault_by, fault_at, first_fault, fault_of}
 use Rattle.dc_kills.specs.Reading.{GainsLine}
+use Rattle.std.proofs.lemmas.Bool.{and_parts}
 
 -- ---- attempts
 -- the order of attempts ties at the same ones alone
@@ -30,13 +31,8 @@ pub get_is : (plan : List Entry) (attempt : Attempt) → lookup (λ other. is_eq
 get_is [] attempt = refl
 get_is (entry ∷ plan) attempt = rw (same_is attempt entry.0, get_is plan attempt) refl
 
-both : (m n : Bool) → (m && n) ≡ true → (m ≡ true) × (n ≡ true)
-both true true h = (refl, refl)
-both true false h = cc
-both false n h = cc
-
 same_attempt : (a b : Attempt) → is_same a b ≡ true → a ≡ b
-same_attempt a b h = let parts = both (a.0 == b.0) (a.1 == b.1) h in ap₂ (λ piece number. (piece, number)) (eqb-true a.0 b.0 parts.0) (eqb-true a.1 b.1 parts.1)
+same_attempt a b h = let parts = and_parts (a.0 == b.0) (a.1 == b.1) h in ap₂ (λ piece number. (piece, number)) (eqb-true a.0 b.0 parts.0) (eqb-true a.1 b.1 parts.1)
 
 same_flip : (a b : Attempt) → is_same a b ≡ is_same b a
 same_flip a b = ap₂ (λ x y. x && y) (flip a.0 b.0) (flip a.1 b.1)

@@ -14,6 +14,7 @@ use Rattle.dc_options.specs.declared.table.Flag.{Flag}
 use Rattle.dc_options.specs.declared.errors.OptionError.{OptionError}
 use Rattle.dc_options.specs.declared.errors.OptionError.TheVariants as error
 use Rattle.dc_options.proofs.LookLemmas.{is_flag-true}
+use Rattle.std.proofs.lemmas.Bool.{or_parts}
 
 -- ---- options are compared both ways
 same_flip : (f g : Flag) (b : Bool) → same_flag f g ≡ false → same_flag g f ≡ b → b ≡ false
@@ -68,16 +69,12 @@ cond_false : (b : Bool) (x : OptionError) (o : Option OptionError) → cond b (S
 cond_false true x o e = absurd (cc)
 cond_false false x o e = (refl, e)
 
-or_false : (a b : Bool) → (a || b) ≡ false → (a ≡ false) × (b ≡ false)
-or_false true b e = absurd (cc)
-or_false false b e = (refl, e)
-
 -- a word that is not refused behind more options is not refused behind fewer
 fewer : (o : Option Flag) (h : Head) (fs more : List Flag) → refused_by (fs ++ more) o h ≡ None → refused_by fs o h ≡ None
 fewer None h fs more e = e
 fewer (Some f) h fs more e =
     let k = cond_false (is_among f (fs ++ more)) (error.Repeated h.word) _ e in
-    let a : is_among f fs ≡ false = (or_false (is_among f fs) (is_among f more) (sym (list_any-append (λ g. same_flag g f) fs more) ∙ k.0)).0 in
+    let a : is_among f fs ≡ false = (or_parts (is_among f fs) (is_among f more) (sym (list_any-append (λ g. same_flag g f) fs more) ∙ k.0)).0 in
     ap (λ b. cond b (Some (error.Repeated h.word)) (cond (nat_lt (length h.values) (count_of (needs_of f))) (Some (error.NeedsValue h.word)) (refused_value (needs_of f) h.word h.values))) a ∙ k.1
 
 -- it is not refused behind another option that is not its own
@@ -93,7 +90,7 @@ beside (Some f) p h fs apart e =
     alone (Some g) apart = ap (λ b. b || false) (same_flip f g (same_flag g f) (apart f g refl refl) refl)
 
 among_last : (f : Flag) (fs : List Flag) (g : Flag) → is_among g (fs ++ f ∷ []) ≡ false → same_flag f g ≡ false
-among_last f fs g e = (or_false (same_flag f g) false (or_false (is_among g fs) (same_flag f g || false) (sym (list_any-append (λ h. same_flag h g) fs (f ∷ [])) ∙ e)).1).0
+among_last f fs g e = (or_parts (same_flag f g) false (or_parts (is_among g fs) (same_flag f g || false) (sym (list_any-append (λ h. same_flag h g) fs (f ∷ [])) ∙ e)).1).0
 
 -- two words of which none is refused are not one option
 apart_by : (o p : Option Flag) (k : Head) (fs : List Flag) → refused_by (fs ++ cons_option o []) p k ≡ None → Apart o p

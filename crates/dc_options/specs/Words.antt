@@ -11,6 +11,7 @@ use Rattle.dc_options.specs.Values.{refused_value}
 use Rattle.dc_options.specs.declared.table.Flag.{Flag}
 use Rattle.dc_options.specs.declared.errors.OptionError.{OptionError}
 use Rattle.dc_options.specs.declared.errors.OptionError.TheVariants as error
+use Rattle.dc_path.specs.Words.{is_dashed}
 
 -- a word that is no value, with the values that follow it
 pub record Head : Type 0 where
@@ -26,11 +27,6 @@ abbrev pub heads : ℕ → List (List ℕ) → List Head
 heads n [] = []
 heads zero (word ∷ words) = head_at word words ∷ heads (wanted (flag_of word)) words
 heads (suc n) (word ∷ words) = heads n words
-
--- a word that begins with `-`
-abbrev pub is_dashed : List ℕ → Bool
-is_dashed [] = false
-is_dashed (byte ∷ word) = byte == 45
 
 -- a path, or a refusal of its word
 abbrev pub as_path : List ℕ → Result Names PathError → Result Names OptionError

@@ -222,7 +222,7 @@ fn copy_paths(alloc: Global, paths: &[Path]) -> Result<List<Path>, OutOfMemory>
     let mut copies = List::new(alloc);
     for path in paths {
         let copy = path.copy(alloc)?;
-        copies.push(copy).map_err(|_| OutOfMemory)?;
+        copies.add(copy)?;
     }
     Ok(copies)
 }

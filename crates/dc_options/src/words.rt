@@ -87,13 +87,13 @@ impl Given {
         match Flag::read(word.as_str()) {
             None => {
                 let path = read_other(alloc, word)?;
-                self.paths.push(path).map_err(|_| OptionError::Memory)?;
+                self.paths.add(path)?;
                 Ok(0)
             }
             Some(flag) => {
                 let values = values_after(flag, after);
                 check_option(alloc, self.flags.as_slice(), flag, word, values)?;
-                self.flags.push(flag).map_err(|_| OptionError::Memory)?;
+                self.flags.add(flag)?;
                 Ok(flag.needs().count())
             }
         }

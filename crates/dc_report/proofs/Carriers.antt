@@ -9,12 +9,11 @@ use Rattle.std.specs.declared.cmp.Ordering.TheVariants.{Less}
 use Rattle.dc_path.specs.Order.{path_lt}
 use Rattle.dc_path.specs.Paths.{Names, cut, parent_of, path_cmp}
 use Rattle.dc_path.proofs.OrderLemmas.{path_lt-cmp}
-use Rattle.dc_path.proofs.PathLemmas.{Last, append-cut, cut-append, cut_more, cut_none, empty, ended, front_of-append, last_case, path_decides, same_path-true}
+use Rattle.dc_path.proofs.PathLemmas.{Last, append-cut, cut-append, cut_more, cut_none, empty, ended, last_case, path_decides, ties_same, same_key, parent_of-append, Ended}
 use Rattle.dc_report.specs.Carrying.{Carried, Carry, Has, Stays, With, carried_by, carrier, moved, old_lt, or_carried, place, place_from, then_rest}
 use Rattle.dc_report.specs.Carries.{carries_in, carry_to, hit_of}
-use Rattle.dc_report.proofs.KnownLemmas.{ties_same}
 use Rattle.dc_report.proofs.Sorting.{IsSorted}
-use Rattle.dc_report.proofs.PathOrder.{cut-less}
+use Rattle.dc_path.proofs.PathOrder.{cut-less}
 
 -- an entry of the map
 abbrev pub Pair : Type 0
@@ -41,16 +40,13 @@ hit_or : (k l : Carried) → hit_of (or_carried k l) ≡ or_hit (hit_of k) (hit_
 hit_or Stays l = refl
 hit_or (With c r) l = refl
 
-all_pass : (cs : List Carry) (p : Names) → ((d : Carry) → Has cs d → cut d.old p ≡ None) → carrier cs p ≡ Stays
-all_pass [] p h = refl
-all_pass (c ∷ cs) p h = rw (all_pass cs p (λ d k. h d (inr k)), h c (inl refl)) refl
-
-same_key : (p q : Names) → is_eq (path_cmp p q) ≡ true → p ≡ q
-same_key p q e = same_path-true p q (sym (ties_same p q) ∙ e)
+pub carrier_stays : (cs : List Carry) (p : Names) → ((d : Carry) → Has cs d → cut d.old p ≡ None) → carrier cs p ≡ Stays
+carrier_stays [] p h = refl
+carrier_stays (c ∷ cs) p h = rw (carrier_stays cs p (λ d k. h d (inr k)), h c (inl refl)) refl
 
 hit_here : (e : Pair) (es : List Pair) (p new : _) → IsSorted old_lt (carries_in (e ∷ es)) → p ≡ e.0 → e.1 ≡ new → hit_of (carrier (carries_in (e ∷ es)) p) ≡ Some (p, new)
 hit_here e es p new s i n =
-    let pass : carrier (carries_in es) e.0 ≡ Stays = all_pass (carries_in es) e.0 (λ d h. cut-less d.old e.0 (s.0 d h)) in
+    let pass : carrier (carries_in es) e.0 ≡ Stays = carrier_stays (carries_in es) e.0 (λ d h. cut-less d.old e.0 (s.0 d h)) in
     let own : cut e.0 e.0 ≡ Some [] = rw append-nil at (cut-append e.0 []) in
     rw (i, ← n, pass, own) refl
 
@@ -117,23 +113,19 @@ abbrev pub size_left : Option Names → ℕ
 size_left None = 0
 size_left (Some front) = length front + 1
 
-parent_is : (p : Names) (x : List ℕ) → parent_of (p ++ x ∷ []) ≡ Some p
-parent_is [] x = refl
-parent_is (y ∷ p) x = ap Some (front_of-append (y ∷ p) x)
-
 pub missed : (es : List Pair) (front : Names) → lookup (λ q. is_eq (path_cmp front q)) es ≡ None → hit_of (carrier (carries_in es) front) ≡ hit_left es (parent_of front)
 missed es front h = by_last (last_case front)
   where
     by_last : Last front → hit_of (carrier (carries_in es) front) ≡ hit_left es (parent_of front)
     by_last (empty i) = rw i (missed_root es (rw i at h))
-    by_last (ended p x i) = rw (i, parent_is p x) (missed_front es p x (rw i at h))
+    by_last (ended p x i) = rw (i, parent_of-append p x) (missed_front es p x (rw i at h))
 
 pub less_left : (front : Names) → size_left (parent_of front) < length front + 1
 less_left front = by_last (last_case front)
   where
     by_last : Last front → size_left (parent_of front) < length front + 1
     by_last (empty i) = rw i (omega arith)
-    by_last (ended p x i) = let l = length-append p (x ∷ []) in rw (i, parent_is p x) (omega (arith, l))
+    by_last (ended p x i) = let l = length-append p (x ∷ []) in rw (i, parent_of-append p x) (omega (arith, l))
 
 -- ---- what stays, what goes, and what is followed by a rest
 pub stays : (cs : List Carry) (p rest : Names) → hit_of (carrier cs p) ≡ None → then_rest (moved cs p) rest ≡ Some (p ++ rest)
@@ -143,9 +135,9 @@ stays cs p rest h = by (carrier cs p) refl h
     by Stays e f = rw e refl
     by (With c r) e f = absurd (cc)
 
-carried_rest : (cs : List Carry) (p : Names) (c : Carry) (r : Names) → carrier cs p ≡ With c r → p ≡ c.old ++ r
-carried_rest [] p c r e = absurd (cc)
-carried_rest (d ∷ cs) p c r e = first (carrier cs p) refl (cut d.old p) refl e (carried_rest cs p c r)
+pub carrier_rest : (cs : List Carry) (p : Names) (c : Carry) (r : Names) → carrier cs p ≡ With c r → p ≡ c.old ++ r
+carrier_rest [] p c r e = absurd (cc)
+carrier_rest (d ∷ cs) p c r e = first (carrier cs p) refl (cut d.old p) refl e (carrier_rest cs p c r)
   where
     first : (k : Carried) → carrier cs p ≡ k → (o : Option Names) → cut d.old p ≡ o → or_carried k (carried_by d o) ≡ With c r → (carrier cs p ≡ With c r → p ≡ c.old ++ r) → p ≡ c.old ++ r
     first Stays e None f g ih = absurd (cc)
@@ -167,7 +159,7 @@ goes_by cs p old new h = by (carrier cs p) refl h
         let q : (c.old, c.new) ≡ (old, new) = cc in
         let i : c.old ≡ old = ap (λ (u : Pair). u.0) q in
         let j : c.new ≡ new = ap (λ (u : Pair). u.1) q in
-        record { rest = r; path = rw (← i) (carried_rest cs p c r e); goes = rw (e, j) refl }
+        record { rest = r; path = rw (← i) (carrier_rest cs p c r e); goes = rw (e, j) refl }
 
 twice : (new : Option Names) (r s : Names) → then_rest (then_rest new r) s ≡ then_rest new (r ++ s)
 twice None r s = refl
@@ -186,20 +178,8 @@ pub place_last : (cs : List Carry) (p : Names) (x : List ℕ) → place cs (p ++
 place_last cs [] x = refl
 place_last cs (y ∷ p) x = place_end cs [] y p x
 
--- a path, as its parent and its last name
-pub record Ends (p front : Names) : Type 0 where
-  pub name : List ℕ
-  pub path : p ≡ front ++ name ∷ []
-
-pub ended_by : (p front : Names) → parent_of p ≡ Some front → Ends p front
-ended_by p front h = by (last_case p)
-  where
-    by : Last p → Ends p front
-    by (empty i) = let k : None ≡ Some front = rw i at h in absurd (cc)
-    by (ended q x i) = let k : Some q ≡ Some front = sym (parent_is q x) ∙ rw i at h in let e : q ≡ front = cc in record { name = x; path = rw (← e) i }
-
-pub place_ended : (cs : List Carry) (p front : Names) (k : Ends p front) → then_rest (moved cs front) (k.name ∷ []) ≡ place cs p
-place_ended cs p front k = sym (ap (place cs) k.path ∙ place_last cs front k.name)
+pub place_ended : (cs : List Carry) (p : Names) (k : Ended p) → then_rest (moved cs k.front) (k.name ∷ []) ≡ place cs p
+place_ended cs p k = sym (ap (place cs) k.path ∙ place_last cs k.front k.name)
 
 -- a path followed by no names
 pub then_nothing : (o : Option Names) → then_rest o [] ≡ o

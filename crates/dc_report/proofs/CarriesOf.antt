@@ -17,7 +17,7 @@ use Rattle.dc_report.specs.Carries.{carries_in, carry_to}
 use Rattle.dc_report.specs.Carrying.{Carry, Has, carries_of, carry_of, insert_by, old_lt, sort_by}
 use Rattle.dc_report.specs.Reports.{takes}
 use Rattle.dc_path.proofs.OrderLemmas.{path_lt-trans}
-use Rattle.dc_report.proofs.PathOrder.{path_lt-connex, path_lt-irrefl}
+use Rattle.dc_path.proofs.PathOrder.{path_lt-connex, path_lt-irrefl}
 use Rattle.dc_report.proofs.Sorting.{sort_last}
 
 -- ---- the entries that carry

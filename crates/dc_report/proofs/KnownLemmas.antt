@@ -5,10 +5,9 @@ use Rattle.std.specs.List.{list_any}
 use Rattle.std.specs.BTreeMap.{BTreeMap, get}
 use Rattle.std.specs.Option.{is_some}
 use Rattle.std.specs.BTreeSet.{BTreeSet, contains}
-use Rattle.std.specs.Cmp.Lexicographic.{lists_ties, texts_ties, slice_cmp}
-use Rattle.std.specs.Ordering.{nat_cmp, is_eq}
+use Rattle.std.specs.Ordering.{is_eq}
 use Rattle.dc_path.specs.Paths.{Names, path_cmp, same_path}
-use Rattle.dc_path.proofs.PathLemmas.{path_decides}
+use Rattle.dc_path.proofs.PathLemmas.{ties_same, same_path-flip}
 use Rattle.dc_report.specs.declared.entries.Entry.{Entry}
 use Rattle.dc_report.specs.declared.entries.Entry.TheVariants.{Deleted, Renamed, Created, Modified}
 use Rattle.dc_report.specs.declared.known.Known.{Known}
@@ -20,18 +19,6 @@ use Rattle.dc_report.proofs.CarriesOf.{carries_none, carries_one}
 use Rattle.dc_report.specs.Reports.{creates, modifies, takes, gives, double_of}
 
 -- ---- paths
-pub ties_same : (p q : Names) → is_eq (path_cmp p q) ≡ same_path p q
-ties_same p q = sym (lists_ties (slice_cmp nat_cmp) texts_ties p q)
-
-flip_at : (p q : Names) (a b : Bool) → same_path p q ≡ a → same_path q p ≡ b → a ≡ b
-flip_at p q true true e f = refl
-flip_at p q false false e f = refl
-flip_at p q true false e f = let k : same_path q p ≡ true = (path_decides q p).1 (sym ((path_decides p q).0 e)) in sym k ∙ f
-flip_at p q false true e f = let k : same_path p q ≡ true = (path_decides p q).1 (sym ((path_decides q p).0 f)) in sym e ∙ k
-
-pub same_path-flip : (p q : Names) → same_path p q ≡ same_path q p
-same_path-flip p q = flip_at p q (same_path p q) (same_path q p) refl refl
-
 or_cond : (a b : Bool) → cond a true b ≡ (b || a)
 or_cond true true = refl
 or_cond true false = refl

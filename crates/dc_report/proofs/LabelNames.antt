@@ -1,5 +1,5 @@
 -- The stage and the items in it have names, and their paths pass no limit.
-use Rattle.std.proofs.Common.{◌≡◌, ℕ, ◌+◌, ◌%◌, ◌^◌, ◌<◌, ◌≤◌, Bool, true, false, ◌&&◌, nat_le, nat_lt, nat_eq, List, [], ◌∷◌, ◌++◌, length, Ok, refl, sym, ◌∙◌, ap, arith, length-append}
+use Rattle.std.proofs.Common.{◌≡◌, ℕ, ◌+◌, ◌%◌, ◌^◌, ◌<◌, ◌≤◌, Bool, true, false, ◌&&◌, nat_le, nat_lt, nat_eq, List, [], ◌∷◌, ◌++◌, length, refl, ◌∙◌, ap, arith}
 use Rattle.std.proofs.lemmas.Bool.Decides.{nat_tests}
 use Rattle.std.proofs.lemmas.Fmt.{decimal_by_steps, decimal_nonempty, length-decimal-le, IsAscii-decimal}
 use Rattle.std.proofs.lemmas.List.Folds.{list_all-append}
@@ -10,8 +10,7 @@ use Rattle.std.specs.Str.{chars, is_utf8}
 use lib.Utf8.{encode}
 use Rattle.std.specs.Cmp.{first_so, second_so}
 use Rattle.dc_path.specs.Names.{is_name, is_plain}
-use Rattle.dc_path.specs.Paths.{Names, IsPath, joined}
-use Rattle.dc_path.specs.Reading.{within_limits}
+use Rattle.dc_path.specs.Paths.{IsWithin}
 use Rattle.dc_path.proofs.Joins.{length-joined-append, length-joined-one, name_short}
 use Rattle.dc_report.specs.Moves.{label_of, stage_name}
 use Rattle.dc_report.proofs.Labels.{label_decimal}
@@ -62,34 +61,16 @@ unfolding is_name stage_name is_utf8 chars encode
 stage_is_name = refl
 
 -- ---- limits
-within_tests : (n m : ℕ) → n ≤ 256 → m ≤ 4096 → (nat_lt 256 n ≡ false) × (nat_lt 4096 m ≡ false)
-within_tests n m h k = (grind (arith, nat_tests), grind (arith, nat_tests))
+pub stage_within : IsWithin (stage_name ∷ [])
+stage_within = record {
+  few = omega arith;
+  short = let l = name_short stage_name stage_is_name in let m = length-joined-one stage_name in omega arith;
+}
 
-pub within_short : (p : Names) → length p ≤ 256 → length (joined p) ≤ 4096 → within_limits p ≡ Ok p
-within_short p h k = let t = within_tests (length p) (length (joined p)) h k in rw (t.0, t.1) refl
-
-pub within_path : (p : Names) → IsPath p → within_limits p ≡ Ok p
-within_path p h = within_short p h.few h.short
-
--- a front of a path passes no limit
-pub within_front : (p q : Names) → IsPath (p ++ q) → within_limits p ≡ Ok p
-within_front p q h =
-    within_short p (let l = length-append p q in let k = h.few in omega arith) (let l = length-joined-append p q in let k = h.short in omega arith)
-
-pub stage_within : within_limits (stage_name ∷ []) ≡ Ok (stage_name ∷ [])
-stage_within = within_short (stage_name ∷ []) (omega arith) (let l = name_short stage_name stage_is_name in let m = length-joined-one stage_name in omega arith)
-
-pub slot_within : (n : ℕ) → n < 2 ^ 64 → within_limits (stage_name ∷ label_of n ∷ []) ≡ Ok (stage_name ∷ label_of n ∷ [])
+pub slot_within : (n : ℕ) → n < 2 ^ 64 → IsWithin (stage_name ∷ label_of n ∷ [])
 slot_within n h =
     let a = name_short stage_name stage_is_name in
     let b = length-joined-one stage_name in
     let c = name_short (label_of n) (label_is_name n h) in
     let d = length-joined-one (label_of n) in
-    within_short (stage_name ∷ label_of n ∷ []) (omega arith) (let l = length-joined-append (stage_name ∷ []) (label_of n ∷ []) in omega arith)
-
-pub front_is_path : (p q : Names) → IsPath (p ++ q) → IsPath p
-front_is_path p q h = record {
-  named = first_so (list_all is_name p) (list_all is_name q) (sym (list_all-append is_name p q) ∙ h.named);
-  few = let l = length-append p q in let k = h.few in omega arith;
-  short = let l = length-joined-append p q in let k = h.short in omega arith;
-}
+    record { few = omega arith; short = let l = length-joined-append (stage_name ∷ []) (label_of n ∷ []) in omega arith }

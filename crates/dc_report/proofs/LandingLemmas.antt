@@ -1,48 +1,27 @@
 -- The renamed items by new path: a map takes each in its place.
-use Rattle.std.proofs.Common.{◌≡◌, ◌⊎◌, inl, inr, ⊎_elim, ℕ, Bool, true, false, cond, List, [], ◌∷◌, ◌++◌, length, Option, Some, None, refl, sym, ◌∙◌, ap, subst}
+use Rattle.std.proofs.Common.{◌≡◌, ◌⊎◌, inl, inr, ⊎_elim, ℕ, true, false, cond, List, [], ◌∷◌, ◌++◌, length, Option, Some, None, refl, sym, ◌∙◌, ap, subst}
 use Rattle.std.specs.BTreeMap.{insert_entry}
 use Rattle.std.specs.Cmp.{IsTotalOrder}
 use Rattle.std.specs.Cmp.Lexicographic.{lists_total, nat_list_cmp_total}
 use Rattle.std.specs.List.{filter_map}
-use Rattle.std.specs.Ordering.{is_lt, match_ordering, ordering_reverse}
+use Rattle.std.specs.Ordering.{match_ordering}
 use Rattle.std.specs.declared.cmp.Ordering.{Ordering}
 use Rattle.std.specs.declared.cmp.Ordering.TheVariants.{Less, Equal, Greater}
 use Rattle.dc_path.specs.Order.{path_lt}
 use Rattle.dc_path.specs.Paths.{Names, path_cmp}
-use Rattle.dc_path.proofs.OrderLemmas.{path_lt-cmp, path_lt-trans}
+use Rattle.dc_path.proofs.OrderLemmas.{path_lt-trans}
 use Rattle.dc_report.specs.Apart.{IsReport}
 use Rattle.dc_report.specs.Carrying.{Carry, Has, Place, add_item, carries_of, carry_of, insert_by, items_of, new_gt, old_lt, sort_by}
 use Rattle.dc_report.specs.Landings.{NewsDiffer, ascending, landed, landings_of}
 use Rattle.dc_report.specs.declared.entries.Entry.{Entry}
 use Rattle.dc_report.specs.declared.entries.Entry.TheVariants.{Created, Deleted, Modified, Renamed}
 use Rattle.dc_report.proofs.HasLemmas.{has_either}
-use Rattle.dc_report.proofs.PathOrder.{path_lt-connex, path_lt-irrefl}
+use Rattle.dc_path.proofs.PathOrder.{path_lt-connex, path_lt-irrefl, cmp_less, cmp_greater, path_lt-back}
 use Rattle.dc_report.proofs.Sorting.{AreApart, IsSorted, sort_has, sort_sorted}
 
 -- ---- the order of paths as it is tested
-less_is : (o : Ordering) → is_lt o ≡ true → o ≡ Less
-less_is Less e = refl
-less_is Equal e = absurd (cc)
-less_is Greater e = absurd (cc)
-
-cmp_less : (p q : Names) → path_lt p q ≡ true → path_cmp p q ≡ Less
-cmp_less p q h = less_is (path_cmp p q) (sym (path_lt-cmp p q) ∙ h)
-
 paths_total : IsTotalOrder path_cmp
 paths_total = lists_total nat_list_cmp_total
-
-cmp_greater : (p q : Names) → path_lt q p ≡ true → path_cmp p q ≡ Greater
-cmp_greater p q h = paths_total.antisymm p q ∙ ap ordering_reverse (cmp_less q p h)
-
-not_both : (p q : Names) → path_lt p q ≡ true → path_lt q p ≡ true → ⊥
-not_both p q h k = let e = path_lt-trans p q p h k in let f = path_lt-irrefl p in absurd (cc)
-
-never_less_at : (p q : Names) (b : Bool) → path_lt p q ≡ true → path_lt q p ≡ b → b ≡ false
-never_less_at p q false h e = refl
-never_less_at p q true h e = absurd (not_both p q h e)
-
-never_less : (p q : Names) → path_lt p q ≡ true → path_lt q p ≡ false
-never_less p q h = never_less_at p q (path_lt q p) h refl
 
 -- ---- an entry more in a map
 -- behind all
@@ -84,7 +63,7 @@ insert_ascending n (m ∷ ns) s a = ⊎_elim last (before (insert_ascending n ns
 
     before : insert_entry path_cmp (ascending ns) n.new n.label ≡ ascending (insert_by new_gt n ns) → path_lt n.new m.new ≡ true → insert_entry path_cmp (ascending (m ∷ ns)) n.new n.label ≡ ascending (cond (path_lt m.new n.new) (n ∷ m ∷ ns) (m ∷ insert_by new_gt n ns))
     before ih h =
-        rw (never_less n.new m.new h)
+        rw (path_lt-back n.new m.new h)
         (insert_before (ascending ns) (m.new, m.label) n.new n.label h
         ∙ ap (λ (es : List (Names × ℕ)). es ++ (m.new, m.label) ∷ []) ih)
 

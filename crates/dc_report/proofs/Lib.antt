@@ -13,7 +13,6 @@ pub mod WrittenLines
 pub mod SpeltLines
 pub mod Labels
 pub mod Sorting
-pub mod PathOrder
 pub mod HasLemmas
 pub mod ToldApart
 pub mod Carriers
@@ -21,7 +20,6 @@ pub mod CarriesOf
 pub mod LabelNames
 pub mod LandingLemmas
 pub mod StageLoop
-pub mod Fronts
 pub mod WalkLoop
 pub mod WalkLemmas
 pub mod MovesOf

@@ -1,11 +1,8 @@
 -- Items of lists, by their places.
-use Rattle.std.proofs.Common.{◌≡◌, ℕ, zero, suc, ◌+◌, ◌<◌, ◌≤◌, Bool, true, false, ◌||◌, List, [], ◌∷◌, ◌++◌, length, take, drop, slice_get, Some, None, refl, ap, ◌∙◌, arith}
+use Rattle.std.proofs.Common.{◌≡◌, ℕ, zero, suc, ◌+◌, ◌<◌, ◌≤◌, Bool, true, false, ◌||◌, List, [], ◌∷◌, ◌++◌, length, take, drop, slice_get, Some, None, refl, ap, ◌∙◌, arith, ◌&&◌, not}
 use Rattle.std.specs.List.{list_all, list_any}
 use Rattle.std.specs.Cmp.{first_so, second_so}
-
-neither : (a b : Bool) → (a || b) ≡ false → (a ≡ false) × (b ≡ false)
-neither true b h = absurd (cc)
-neither false b h = (refl, h)
+use Rattle.std.proofs.lemmas.Bool.{or_parts}
 
 module _ {X : Type 0} (f : X → Bool) where
   -- one that does not pass
@@ -24,18 +21,12 @@ module _ {X : Type 0} (f : X → Bool) where
       let s : suc i + 1 ≡ suc (i + 1) = omega arith in
       rw s (rw (one, ih) refl)
 
-  -- one that passes
-  pub list_any-hit : (xs : List X) (i : ℕ) (x : X) → slice_get xs i ≡ Some x → f x ≡ true → list_any f xs ≡ true
-  list_any-hit [] i x e h = absurd (cc)
-  list_any-hit (y ∷ xs) zero x e h = let k : y ≡ x = cc in rw (ap f k ∙ h) refl
-  list_any-hit (y ∷ xs) (suc i) x e h = let ih : list_any f xs ≡ true = list_any-hit xs i x e h in grind (arith, ih)
-
   -- one more that does not pass
   pub list_any-more : (xs : List X) (i : ℕ) (x : X) → slice_get xs i ≡ Some x → f x ≡ false → list_any f (take i xs) ≡ false → list_any f (take (i + 1) xs) ≡ false
   list_any-more [] i x e h k = absurd (cc)
   list_any-more (y ∷ xs) zero x e h k = let l : y ≡ x = cc in rw (ap f l ∙ h) refl
   list_any-more (y ∷ xs) (suc i) x e h k =
-      let parts = neither (f y) (list_any f (take i xs)) k in
+      let parts = or_parts (f y) (list_any f (take i xs)) k in
       let one = parts.0 in
       let ih : list_any f (take (i + 1) xs) ≡ false = list_any-more xs i x e h parts.1 in
       let s : suc i + 1 ≡ suc (i + 1) = omega arith in
@@ -65,3 +56,9 @@ drop_past [] zero h = refl
 drop_past [] (suc i) h = refl
 drop_past (x ∷ xs) zero h = absurd (omega arith)
 drop_past (x ∷ xs) (suc i) h = drop_past xs i (omega arith)
+
+-- a test that holds, and one that does not
+pub both_so : (a b : Bool) → (a && not b) ≡ true → (a ≡ true) × (b ≡ false)
+both_so true true h = absurd (cc)
+both_so true false h = (refl, refl)
+both_so false b h = absurd (cc)

@@ -1,35 +1,33 @@
 -- The places of what is created, as a set of paths within the limits.
-use Rattle.std.proofs.Common.{◌≡◌, ℕ, ◌+◌, Bool, true, false, cond, ◌||◌, nat_lt, List, [], ◌∷◌, ◌++◌, length, take, slice_get, Option, Some, None, Ok, Err, refl, sym, ◌∙◌, ap}
+use Rattle.std.proofs.Common.{◌≡◌, ℕ, ◌+◌, Bool, true, false, cond, ◌||◌, List, [], ◌∷◌, ◌++◌, take, slice_get, Option, Some, None, Result, Ok, Err, refl, sym, ◌∙◌, ap}
 use Rattle.std.proofs.lemmas.List.Folds.{list_any-append}
 use Rattle.std.specs.List.{list_any, filter_map}
 use Rattle.std.specs.Ordering.{is_eq}
-use Rattle.dc_path.specs.Paths.{Names, IsPath, joined, path_cmp, same_path}
+use Rattle.dc_path.specs.Paths.{Names, IsPath, path_cmp, same_path}
 use Rattle.dc_path.specs.Reading.{some_path, within_limits}
 use Rattle.dc_path.specs.declared.path.PathError.{PathError}
-use Rattle.dc_path.specs.declared.path.PathError.TheVariants.{TooDeep, TooLong}
-use Rattle.dc_path.proofs.PathLemmas.{same_path-true}
+use Rattle.dc_path.proofs.PathLemmas.{same_path-true, same_path-flip}
 use Rattle.dc_report.specs.Carrying.{limited}
 use Rattle.dc_report.specs.Landings.{is_at}
 use Rattle.dc_report.specs.declared.entries.Entry.{Entry}
-use Rattle.dc_report.proofs.KnownLemmas.{entered, same_path-flip}
-use Rattle.dc_report.proofs.LabelNames.{within_path}
+use Rattle.dc_report.proofs.KnownLemmas.{entered}
+use Rattle.dc_path.proofs.LimitLemmas.{path_within, within_is, within_same}
 use Rattle.dc_report.proofs.Lists.{take_get}
 
 -- ---- what a place with limits tells of the place
-some_within : (a b : Bool) (p q : Names) → some_path (cond a (Err TooDeep) (cond b (Err TooLong) (Ok p))) ≡ Ok (Some q) → p ≡ q
-some_within true b p q e = absurd (cc)
-some_within false true p q e = absurd (cc)
-some_within false false p q e = cc
-
 pub limited_some : (o : Option Names) (q : Names) → limited o ≡ Ok (Some q) → o ≡ Some q
 limited_some None q e = absurd (cc)
-limited_some (Some p) q e = ap (λ (r : Names). Some r) (some_within (nat_lt 256 (length p)) (nat_lt 4096 (length (joined p))) p q e)
+limited_some (Some p) q e = by (within_limits p) refl e
+  where
+    by : (r : Result Names PathError) → within_limits p ≡ r → some_path r ≡ Ok (Some q) → Some p ≡ Some q
+    by (Ok n) k h = let l : n ≡ q = cc in ap (λ (r : Names). Some r) (within_same p n k ∙ l)
+    by (Err x) k h = absurd (cc)
 
 other_at : (p q : Names) (b : Bool) (e : PathError) → some_path (within_limits p) ≡ Err e → IsPath q → same_path p q ≡ b → b ≡ false
 other_at p q false e h is k = refl
 other_at p q true e h is k =
     let s = same_path-true p q k in
-    let w : within_limits p ≡ Ok q = ap within_limits s ∙ within_path q is in
+    let w : within_limits p ≡ Ok q = ap within_limits s ∙ within_is q (path_within q is) in
     let f : some_path (within_limits p) ≡ Ok (Some q) = ap some_path w in
     absurd (cc)
 

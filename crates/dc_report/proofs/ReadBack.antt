@@ -1,15 +1,11 @@
 -- What is read can be written, and what is written is read.
-use Rattle.std.proofs.Common.{◌≡◌, ℕ, ◌+◌, ◌≤◌, ◌==◌, Bool, true, false, cond, ◌&&◌, List, [], ◌∷◌, ◌++◌, length, drop, map, nat_lt, nat_le, Option, Some, None, Result, Ok, Err, refl, sym, ap, ◌∙◌, arith, append_assoc, append-nil, subst, ltb-false, codes}
-use Rattle.std.specs.List.{list_all, list_any, prefix_len}
+use Rattle.std.proofs.Common.{◌≡◌, ℕ, ◌+◌, ◌≤◌, ◌==◌, Bool, true, false, cond, ◌&&◌, List, [], ◌∷◌, ◌++◌, drop, map, Option, Some, None, Result, Ok, Err, refl, sym, ap, ◌∙◌, arith, append_assoc, append-nil, subst, codes}
+use Rattle.std.specs.List.{list_all, list_any}
 use Rattle.std.specs.Str.{is_utf8}
-use Rattle.std.proofs.lemmas.Bool.Decides.{nat_tests}
-use Rattle.std.proofs.lemmas.Grind.{common_steps}
-use Rattle.std.proofs.lemmas.List.Sums.{prefix_len-le-length}
-use Rattle.dc_path.specs.Names.{is_name, same_name}
-use Rattle.dc_path.specs.Paths.{Names, IsPath, joined, dotted_of, is_root}
-use Rattle.dc_path.specs.Reading.{path_from, path_of, parts_of, within_limits}
+use Rattle.dc_path.specs.Names.{same_name}
+use Rattle.dc_path.specs.Paths.{Names, IsPath, dotted_of, is_root}
+use Rattle.dc_path.specs.Reading.{path_from}
 use Rattle.dc_path.specs.declared.path.PathError.{PathError}
-use Rattle.dc_path.specs.declared.path.PathError.TheVariants.{TooDeep, TooLong, BadName, Relative}
 use Rattle.dc_report.specs.declared.entries.Entry.{Entry}
 use Rattle.dc_report.specs.declared.entries.Entry.TheVariants.{Deleted, Renamed, Created, Modified}
 use Rattle.dc_report.specs.declared.report.ReportError.{ReportError}
@@ -19,40 +15,9 @@ use Rattle.dc_report.specs.Writing.{line_of}
 use Rattle.dc_report.proofs.Spelt.{line_is_read}
 use Rattle.dc_report.specs.Reports.{creates, modifies, takes, gives, double_of, unless_double, with_spelt, go_on, entries_from}
 use Rattle.dc_report.specs.Told.{IsToldPath, IsTold, AreTold}
+use Rattle.dc_path.proofs.LimitLemmas.{path_from_is}
 
 -- ---- a path that is read is within the limits
-prefix_all : (xs : Names) → length xs ≤ prefix_len is_name xs → list_all is_name xs ≡ true
-prefix_all [] h = refl
-prefix_all (x ∷ xs) h = let ih = prefix_all xs in grind (arith, common_steps, ih)
-
-within_at : (names p : Names) (a b : Bool) → nat_lt 256 (length names) ≡ a → nat_lt 4096 (length (joined names)) ≡ b → list_all is_name names ≡ true
-    → cond a (Err TooDeep) (cond b (Err TooLong) (Ok names)) ≡ Ok p → IsPath p
-within_at names p true b e f n h = absurd (cc)
-within_at names p false true e f n h = absurd (cc)
-within_at names p false false e f n h =
-    let k : names ≡ p = cc in
-    subst IsPath k (record { named = n; few = ltb-false 256 (length names) e; short = ltb-false 4096 (length (joined names)) f })
-
-path_of_at : (parts p : Names) (a : Bool) → (nat_lt (prefix_len is_name parts) (length parts) && nat_le (prefix_len is_name parts) 256) ≡ a
-    → cond a (Err (BadName (prefix_len is_name parts))) (within_limits parts) ≡ Ok p → IsPath p
-path_of_at parts p true e h = absurd (cc)
-path_of_at parts p false e h = within_at parts p (nat_lt 256 (length parts)) (nat_lt 4096 (length (joined parts))) refl refl (prefix_all parts all) h
-  where
-    deep : (d : Bool) → nat_lt 256 (length parts) ≡ d → cond d (Err TooDeep) (cond (nat_lt 4096 (length (joined parts))) (Err TooLong) (Ok parts)) ≡ Ok p → length parts ≤ 256
-    deep true f k = absurd (cc)
-    deep false f k = ltb-false 256 (length parts) f
-
-    all : length parts ≤ prefix_len is_name parts
-    all = let few = deep (nat_lt 256 (length parts)) refl h in let l = prefix_len-le-length is_name parts in grind (arith, nat_tests)
-
-slash_at : (b : ℕ) (text : List ℕ) (p : Names) (a : Bool) → cond a (path_of (parts_of (b ∷ text))) (Err Relative) ≡ Ok p → IsPath p
-slash_at b text p true h = path_of_at (parts_of (b ∷ text)) p _ refl h
-slash_at b text p false h = absurd (cc)
-
-pub path_from_is : (text : List ℕ) (p : Names) → path_from text ≡ Ok p → IsPath p
-path_from_is [] p h = absurd (cc)
-path_from_is (b ∷ text) p h = slash_at b text p (b == 47) h
-
 -- ---- what a line spells may stand in a report
 if_at : (path p : Names) (a b : Bool) → cond (a && b) (Some path) None ≡ Some p → (b ≡ true) × (path ≡ p)
 if_at path p true true h = (refl, cc)

@@ -32,7 +32,7 @@ later_none b None f h = (refl, h)
 later_none b (Some x) f h = absurd (cc)
 
 -- what stands behind a ` -> `, if it is one
-abbrev front_or : Bool → List ℕ → Option Split
+abbrev pub front_or : Bool → List ℕ → Option Split
 front_or e r = cond e (Some ([], r)) None
 
 front_gone : (e : Bool) (r s : List ℕ) → front_or e r ≡ None → front_or e s ≡ None

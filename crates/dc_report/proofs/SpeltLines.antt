@@ -17,12 +17,9 @@ use Rattle.dc_report.specs.Laws.{LinesSpellEntries}
 use Rattle.dc_report.specs.Writing.{line_of}
 use Rattle.dc_report.proofs.Arrows.{arrow}
 use Rattle.dc_report.proofs.ReadBack.{entry_is_told}
-use Rattle.dc_report.proofs.Spelt.{line_is_read}
+use Rattle.dc_report.proofs.Spelt.{line_is_read, front_or}
 
 -- ---- what stands before and behind ` -> `
-abbrev front_or : Bool → List ℕ → Option Split
-front_or e r = cond e (Some ([], r)) None
-
 front_is : (s : List ℕ) (e : Bool) (parts : Split) → starts_with nat_eq s arrow ≡ e → front_or e (drop 4 s) ≡ Some parts → s ≡ parts.0 ++ (arrow ++ parts.1)
 front_is s true parts h k =
     let f : ([], drop 4 s) ≡ parts = cc in

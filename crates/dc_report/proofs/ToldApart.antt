@@ -4,7 +4,7 @@ use Rattle.std.proofs.lemmas.Bool.{and_parts}
 use Rattle.std.specs.List.{list_all, list_any}
 use Rattle.dc_path.specs.Names.{same_name}
 use Rattle.dc_path.specs.Paths.{Names, same_path}
-use Rattle.dc_path.proofs.PathLemmas.{same_path-refl}
+use Rattle.dc_path.proofs.PathLemmas.{same_path-refl, same_name-flip}
 use Rattle.dc_report.specs.Apart.{HasOld, IsReport, OldsDiffer, is_old}
 use Rattle.dc_report.specs.Carrying.{Has}
 use Rattle.dc_report.specs.declared.entries.Entry.{Entry}
@@ -16,7 +16,6 @@ use Rattle.dc_report.specs.Reports.{double_of, gives, takes}
 use Rattle.dc_report.specs.Told.{AreTold, HasNoName, IsTold}
 use Rattle.dc_report.specs.Writing.{paths_of}
 use Rattle.dc_report.proofs.KnownLemmas.{push_any}
-use Rattle.dc_report.proofs.PathOrder.{same_name-flip}
 
 -- ---- no fault, no earlier entry
 no_fault : (b : Bool) (e : ReportError) (o : Option ReportError) → cond b (Some e) o ≡ None → (b ≡ false) × (o ≡ None)

@@ -15,11 +15,11 @@ use Rattle.dc_report.specs.Moves.{fronts, is_new_parent, label_of, parents, plac
 use Rattle.dc_report.specs.declared.entries.Move.{Move}
 use Rattle.dc_report.specs.declared.entries.Move.TheVariants.{Make, Shift}
 use Rattle.dc_report.specs.declared.moves.Ground.{Ground}
-use Rattle.dc_report.proofs.Fronts.{above_append, above_between}
+use Rattle.dc_path.proofs.Fronts.{above_append, above_between}
 use Rattle.dc_report.proofs.HasLemmas.{any_has}
-use Rattle.dc_report.proofs.KnownLemmas.{same_path-flip, ties_same}
-use Rattle.dc_report.proofs.LabelNames.{front_is_path}
 use Rattle.dc_report.proofs.Sorting.{IsSorted}
+use Rattle.dc_path.proofs.PathLemmas.{ties_same, same_path-flip}
+use Rattle.dc_path.proofs.LimitLemmas.{front_is_path}
 
 -- the ground tells of the places and the new paths of a plan
 pub record IsGround (g : Ground) (P : Plan) : Type 0 where

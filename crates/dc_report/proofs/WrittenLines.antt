@@ -1,5 +1,5 @@
 -- What is written has the lines of its entries, and is read as them.
-use Rattle.std.proofs.Common.{◌≡◌, ℕ, ◌<◌, nat_eq, codes, Bool, true, false, cond, not, ◌&&◌, ◌||◌, List, [], ◌∷◌, ◌++◌, length, map, Option, Some, None, Result, Ok, Err, IfOk, refl, sym, ap, ap₂, ◌∙◌, arith, append_assoc, append-nil}
+use Rattle.std.proofs.Common.{◌≡◌, ℕ, ◌<◌, nat_eq, codes, Bool, true, false, cond, ◌&&◌, ◌||◌, List, [], ◌∷◌, ◌++◌, length, map, Option, Some, None, Result, Ok, Err, IfOk, refl, sym, ap, ap₂, ◌∙◌, arith, append_assoc, append-nil}
 use Rattle.std.specs.List.{list_any, flat_map, find, starts_with, ends_with, All}
 use Rattle.std.specs.Str.{is_utf8}
 use Rattle.std.proofs.lemmas.List.Folds.{list_any-append}
@@ -20,19 +20,17 @@ use Rattle.dc_report.specs.Writing.{is_break, is_ambiguous, has_ambiguous, line_
 use Rattle.dc_path.proofs.LineLemmas.{is_feed, line_first, line_alone}
 use Rattle.dc_report.proofs.LineLemmas.{unended-feed}
 use Rattle.dc_report.proofs.ReadBack.{lines_are_read}
+use Rattle.std.proofs.lemmas.Bool.{or_parts}
+use Rattle.dc_report.proofs.Lists.{both_so}
 
 -- ---- no line feed
-neither : (a b : Bool) → (a || b) ≡ false → (a ≡ false) × (b ≡ false)
-neither true b h = absurd (cc)
-neither false b h = (refl, h)
-
 no_break : (xs : List ℕ) → list_any is_break xs ≡ false → list_any is_feed xs ≡ false
 no_break [] h = refl
 no_break (x ∷ xs) h = let ih = no_break xs in grind (arith, ih)
 
 name_clear : (x : List ℕ) → is_ambiguous x ≡ false → list_any is_feed x ≡ false
 unfolding is_ambiguous
-name_clear x h = no_break x (neither (list_any is_break x) _ h).0
+name_clear x h = no_break x (or_parts (list_any is_break x) _ h).0
 
 both_clear : (xs ys : List ℕ) → list_any is_feed xs ≡ false → list_any is_feed ys ≡ false → list_any is_feed (xs ++ ys) ≡ false
 both_clear xs ys h k = list_any-append is_feed xs ys ∙ ap₂ (λ (a b : Bool). a || b) h k
@@ -40,7 +38,7 @@ both_clear xs ys h k = list_any-append is_feed xs ys ∙ ap₂ (λ (a b : Bool).
 joined_clear : (names : Names) → list_any is_ambiguous names ≡ false → list_any is_feed (joined names) ≡ false
 joined_clear [] h = refl
 joined_clear (x ∷ names) h =
-    let parts = neither (is_ambiguous x) (list_any is_ambiguous names) h in
+    let parts = or_parts (is_ambiguous x) (list_any is_ambiguous names) h in
     both_clear (47 ∷ x) (joined names) (name_clear x parts.0) (joined_clear names parts.1)
 
 found_none : (p : Names) (b : Bool) (o : Option Names) → cond b (Some p) o ≡ None → (b ≡ false) × (o ≡ None)
@@ -70,8 +68,8 @@ onto_filled b [] c line = refl
 onto_filled b (x ∷ front) c line = refl
 
 ends_clear : (b : ℕ) (line : List ℕ) → list_any is_feed (b ∷ line) ≡ false → unended (b ∷ line) ≡ b ∷ line
-ends_clear b [] h = ap (λ (e : Bool). cond e [] (b ∷ [])) (neither (is_feed b) false h).0
-ends_clear b (c ∷ line) h = ap (onto_unended b) (ends_clear c line (neither (is_feed b) (list_any is_feed (c ∷ line)) h).1)
+ends_clear b [] h = ap (λ (e : Bool). cond e [] (b ∷ [])) (or_parts (is_feed b) false h).0
+ends_clear b (c ∷ line) h = ap (onto_unended b) (ends_clear c line (or_parts (is_feed b) (list_any is_feed (c ∷ line)) h).1)
 
 ends_behind : (front : List ℕ) (b : ℕ) (line : List ℕ) → unended (b ∷ line) ≡ b ∷ line → unended (front ++ b ∷ line) ≡ front ++ b ∷ line
 ends_behind [] b line h = h
@@ -113,7 +111,7 @@ all_end front (e ∷ entries) u n =
 
 clear_All : (xs : List ℕ) → list_any is_feed xs ≡ false → All (λ b. is_feed b ≡ false) xs
 clear_All [] h = All-nil (λ b. is_feed b ≡ false)
-clear_All (x ∷ xs) h = let parts = neither (is_feed x) (list_any is_feed xs) h in All-cons (λ b. is_feed b ≡ false) x xs parts.0 (clear_All xs parts.1)
+clear_All (x ∷ xs) h = let parts = or_parts (is_feed x) (list_any is_feed xs) h in All-cons (λ b. is_feed b ≡ false) x xs parts.0 (clear_All xs parts.1)
 
 line_filled : (e : Entry) → 0 < length (line_of e)
 line_filled (Created p) = omega arith
@@ -150,11 +148,6 @@ heading_filled [] h = filled_at (is_utf8 []) h
 heading_filled (b ∷ heading) h = omega arith
 
 -- ---- what is written is read
-both_so : (a b : Bool) → (a && not b) ≡ true → (a ≡ true) × (b ≡ false)
-both_so true true h = absurd (cc)
-both_so true false h = (refl, refl)
-both_so false b h = absurd (cc)
-
 module _ (heading : List ℕ) (entries : List Entry) (t : AreTold [] entries) (text : List ℕ) where
   reads : is_heading heading ≡ true → list_any is_feed heading ≡ false → first_ambiguous entries ≡ None → report_from (heading ++ 10 ∷ lines_with_feeds entries) ≡ Ok entries
   reads h k n =

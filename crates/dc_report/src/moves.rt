@@ -44,23 +44,12 @@ fn name_of(alloc: Global, text: &str) -> Result<Name, OutOfMemory>
     }
 }
 
-// The path with a name more, where that passes no limit, so want of memory is the one error.
-fn lengthen(alloc: Global, path: &Path, name: &Name) -> Result<Path, OutOfMemory>
-    requires { within_limits (path.now ++ name.now ∷ []) ≡ Ok (path.now ++ name.now ∷ []) }
-    ensures { IfOk result (λ longer. longer ≡ path.now ++ name.now ∷ []) }
-{
-    match path.child(alloc, name) {
-        Ok(longer) => Ok(longer),
-        Err(_) => Err(OutOfMemory),
-    }
-}
-
 // The path of the stage.
 fn stage_path(alloc: Global) -> Result<Path, OutOfMemory>
     ensures { IfOk result (λ stage. stage ≡ stage_name ∷ []) }
 {
     let name = name_of(alloc, ".distcp.stage")?;
-    lengthen(alloc, &Path::root(alloc), &name)
+    Path::root(alloc).child_within(alloc, &name)
 }
 
 // The path in the stage of the item with this number.
@@ -70,14 +59,7 @@ fn slot(alloc: Global, stage: &Path, label: u64) -> Result<Path, OutOfMemory>
 {
     let text = format!(in alloc; "{label}")?;
     let name = name_of(alloc, text.as_str())?;
-    lengthen(alloc, stage, &name)
-}
-
-// Adds a move.
-fn push(moves: &mut List<Move>, step: Move) -> Result<(), OutOfMemory>
-    ensures { OnOk result (moves.new ≡ moves.old ++ step ∷ []) }
-{
-    moves.push(step).map_err(|_| OutOfMemory)
+    stage.child_within(alloc, &name)
 }
 
 // Adds the move of the item with this number into the stage.
@@ -93,7 +75,7 @@ fn push_staged(
 {
     let from = old.copy(alloc)?;
     let to = slot(alloc, stage, label)?;
-    push(moves, Move::Shift { from, to })
+    moves.add(Move::Shift { from, to })
 }
 
 // Adds the move of the item with this number out of the stage.
@@ -109,7 +91,7 @@ fn push_landed(
 {
     let from = slot(alloc, stage, label)?;
     let to = new.copy(alloc)?;
-    push(moves, Move::Shift { from, to })
+    moves.add(Move::Shift { from, to })
 }
 
 // Adds the new path of the item with this number, where it has one.
@@ -231,7 +213,7 @@ fn push_parent(
         return Ok(());
     }
     let path = path.copy(alloc)?;
-    push(moves, Move::Make { path })
+    moves.add(Move::Make { path })
 }
 
 // Adds the moves that make the parents of a new path, but for those above the new path before.
@@ -252,7 +234,7 @@ fn push_parents(
         let Some(name) = new.name(count) else {
             return Ok(());
         };
-        front = lengthen(alloc, &front, name)?;
+        front = front.child_within(alloc, name)?;
     }
     Ok(())
 }
@@ -290,12 +272,12 @@ fn moves_from(
     let stage = stage_path(alloc)?;
     let mut moves = List::new(alloc);
     let path = stage.copy(alloc)?;
-    push(&mut moves, Move::Make { path })?;
+    moves.add(Move::Make { path })?;
     let landings = stage_all(alloc, &stage, carries, &mut moves)?;
     let places = all_places(alloc, entries, carries)?;
     let ground = Ground { places, landings };
     land_all(alloc, &stage, &ground, &mut moves)?;
-    push(&mut moves, Move::Clear { path: stage })?;
+    moves.add(Move::Clear { path: stage })?;
     Ok(moves)
 }
 
@@ -327,7 +309,7 @@ fn moves_below(alloc: Global, base: &Path, steps: &List<Move>) -> Result<List<Mo
     let mut moves = List::new(alloc);
     for step in steps.as_slice() {
         let placed = move_below(alloc, base, step)?;
-        push(&mut moves, placed)?;
+        moves.add(placed)?;
     }
     Ok(moves)
 }

@@ -95,7 +95,8 @@ fn add_line(
         return Err(ReportError::BadLine { line });
     };
     known.add(alloc, line, &entry)?;
-    entries.push(entry).map_err(|_| ReportError::Memory)
+    entries.add(entry)?;
+    Ok(())
 }
 
 // The entries of the lines from the second on.

@@ -35,7 +35,7 @@ pub fn dynamic(alloc: Global, count: u32, maps: u32) -> Result<List<List<u32>>, 
     let mut bundles = empty_bundles(alloc, places)?;
     for number in 0..count {
         let place = (number % places) as usize;
-        bundles[place].push(number).map_err(|_| OutOfMemory)?;
+        bundles[place].add(number)?;
     }
     Ok(List::of(bundles))
 }

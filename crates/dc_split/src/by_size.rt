@@ -25,7 +25,7 @@ fn bundle_of(alloc: Global, number: u32) -> Result<List<u32>, OutOfMemory>
     ensures { IfOk result (λ bundle. bundle ≡ number ∷ []) }
 {
     let mut bundle = List::new(alloc);
-    bundle.push(number).map_err(|_| OutOfMemory)?;
+    bundle.add(number)?;
     Ok(bundle)
 }
 
@@ -55,15 +55,13 @@ pub fn uniform(alloc: Global, lengths: &[u64], maps: u32) -> Result<List<List<u3
         let length = u128::from(lengths[number]);
         if size + length > limit {
             let next = bundle_of(alloc, number as u32)?;
-            bundles
-                .push(mem::replace(&mut bundle, next))
-                .map_err(|_| OutOfMemory)?;
+            bundles.add(mem::replace(&mut bundle, next))?;
             size = length;
         } else {
-            bundle.push(number as u32).map_err(|_| OutOfMemory)?;
+            bundle.add(number as u32)?;
             size += length;
         }
     }
-    bundles.push(bundle).map_err(|_| OutOfMemory)?;
+    bundles.add(bundle)?;
     Ok(bundles)
 }

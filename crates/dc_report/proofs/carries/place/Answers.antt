@@ -1,14 +1,18 @@
 -- What is created goes to where its parent goes.
-use Rattle.std.proofs.Common.{[], ◌∷◌, sym, ◌∙◌, ap, subst}
+use Rattle.std.proofs.Common.{◌≡◌, [], ◌∷◌, ◌++◌, sym, ◌∙◌, ap, subst}
+use Rattle.dc_path.specs.Paths.{Names}
 use Rattle.dc_path.specs.Unless.{GivesUnless}
 use Rattle.dc_path.specs.declared.path.PathError.TheVariants.{Memory}
 use Rattle.dc_report.specs.Carries.{carries_in}
-use Rattle.dc_report.specs.Carrying.{limited}
-use Rattle.dc_report.proofs.Carriers.{ended_by, place_ended}
+use Rattle.dc_report.specs.Carrying.{limited, moved, place, then_rest}
+use Rattle.dc_path.proofs.PathLemmas.{ended_by}
+use Rattle.dc_report.proofs.Carriers.{place_ended}
 use Rattle.dc_report.proofs.carries.place.Goals as goal
 
 pub returns-in-Some : goal.returns-in-Some
 returns-in-Some c =
     let cs = carries_in c.args.carries.now.entries in
     let k = ended_by c.args.created.now c.in-Some.parent (sym c.in_ok-parent.ensures ∙ c.in-Some.is) in
-    subst (GivesUnless Memory c.follow.result) (ap limited (place_ended cs c.args.created.now c.in-Some.parent k)) (c.follow.ensures (k.name ∷ []) k.path)
+    let to = subst (λ (f : Names). then_rest (moved cs f) (k.0.name ∷ []) ≡ place cs c.args.created.now) k.1 (place_ended cs c.args.created.now k.0) in
+    let path = subst (λ (f : Names). c.args.created.now ≡ f ++ k.0.name ∷ []) k.1 k.0.path in
+    subst (GivesUnless Memory c.follow.result) (ap limited to) (c.follow.ensures (k.0.name ∷ []) path)

@@ -1,7 +1,7 @@
 -- The lengths tell whether a prefix is a proper one.
 use Rattle.std.proofs.Common.{◌≡◌, ◌∙◌, ◌<◌, ◌≤◌, length, false, nat_lt, sym, arith}
 use Rattle.std.proofs.lemmas.Bool.Decides.{nat_tests}
-use Rattle.dc_report.proofs.Fronts.{above_longer, above_shorter}
+use Rattle.dc_path.proofs.Fronts.{above_longer, above_shorter}
 use Rattle.dc_report.proofs.moves.is_above.Goals as goal
 
 pub returns-then-len : goal.returns-then-len

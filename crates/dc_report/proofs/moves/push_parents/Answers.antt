@@ -2,15 +2,15 @@
 use Rattle.std.proofs.Common.{◌+◌, drop, sym, subst, arith}
 use Rattle.std.specs.Option.{option_copied}
 use Rattle.dc_path.specs.Paths.{IsPath}
-use Rattle.dc_report.proofs.LabelNames.{within_front}
+use Rattle.dc_path.proofs.LimitLemmas.{front_within, path_within}
 use Rattle.dc_report.proofs.WalkLoop.{walk_end, walk_more, walk_parted}
 use Rattle.dc_report.proofs.moves.push_parents.Goals as goal
 
-pub lengthen-requires : goal.lengthen-requires
-lengthen-requires c =
+pub child_within-requires : goal.child_within-requires
+child_within-requires c =
     let new = c.args.new.now in
     let e = walk_parted new c.loop-count.count c.in-Some.name.now (sym c.in-Some.ensures) in
-    rw c.loop-count.invariant.walked (within_front _ (drop (c.loop-count.count + 1) new) (subst IsPath e c.len-count-end.ensures.path))
+    rw c.loop-count.invariant.walked (front_within _ (drop (c.loop-count.count + 1) new) (path_within _ (subst IsPath e c.len-count-end.ensures.path)))
 
 pub loop-count-preserved : goal.loop-count-preserved
 loop-count-preserved c =

@@ -11,8 +11,8 @@ name_of-requires c =
     let e : c.as_str.result.now ≡ label_of c.args.label = search (rules, l) in
     rw e (label_is_name c.args.label c.ranges.label.fits)
 
-pub lengthen-requires : goal.lengthen-requires
-lengthen-requires c =
+pub child_within-requires : goal.child_within-requires
+child_within-requires c =
     let l = label_decimal c.args.label c.ranges.label.fits in
     let e : c.in_ok-name.name ≡ label_of c.args.label = search (rules, l) in
     rw (c.requires, e) (slot_within c.args.label c.ranges.label.fits)
@@ -21,5 +21,5 @@ pub returns : goal.returns
 returns c =
     let l = label_decimal c.args.label c.ranges.label.fits in
     let e : c.in_ok-name.name ≡ label_of c.args.label = search (rules, l) in
-    let h = c.lengthen.ensures in
+    let h = c.child_within.ensures in
     rw (c.requires, e) at h

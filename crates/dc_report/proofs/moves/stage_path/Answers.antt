@@ -8,9 +8,9 @@ pub name_of-requires : goal.name_of-requires
 unfolding stage_name
 name_of-requires c = stage_is_name
 
-pub lengthen-requires : goal.lengthen-requires
+pub child_within-requires : goal.child_within-requires
 unfolding stage_name
-lengthen-requires c =
+child_within-requires c =
     let e : c.root.result ++ c.in_ok-name.name ∷ [] ≡ stage_name ∷ [] = search rules in
     rw e stage_within
 

@@ -24,10 +24,10 @@ loop-number-preserved c =
     let n = c.loop-number.number in
     let places = c.min-places.result in
     let some : n % places < length c.loop-number.bundles.items = at_place n places c.loop-number.bundles.items (omega arith) c.loop-number.invariant in
-    let added : c.push.new.self ≡ c.index_mut.result.now ++ n ∷ [] = search rules in
+    let added : c.add.new.self ≡ c.index_mut.result.now ++ n ∷ [] = search rules in
     let there : get_or c.loop-number.bundles.items (n % places) [] ≡ c.index_mut.result.now =
     get_or_default c.loop-number.bundles.items (n % places) [] c.index_mut.result.now some ∙ sym c.index_mut.ensures.value in
-    let pushed : c.push.new.self ≡ get_or c.loop-number.bundles.items (n % places) [] ++ n ∷ [] = cc in
+    let pushed : c.add.new.self ≡ get_or c.loop-number.bundles.items (n % places) [] ++ n ∷ [] = cc in
     rw (pushed, c.loop-number.invariant) (deal_more n places (n % places) refl (mod_below n places (omega arith)))
 
 pub returns-clause-once : goal.returns-clause-once

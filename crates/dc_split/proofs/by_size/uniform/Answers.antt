@@ -4,7 +4,7 @@ use Rattle.dc_split.specs.Bundles.{AreUniform}
 use Rattle.dc_split.proofs.Counting.{filled_once}
 use Rattle.dc_split.proofs.Filling.{fill_more, fill_next, filled_few, size-push}
 use Rattle.dc_split.proofs.by_size.uniform.Goals as goal
-use Rattle.dc_split.proofs.by_size.uniform.Goals.{then-size-length+in_ok-next+in_ok-map_err, else-size-length+in_ok-map_err-2}
+use Rattle.dc_split.proofs.by_size.uniform.Goals.{then-size-length+in_ok-next+in_ok-add, else-size-length+in_ok-add-2}
 
 pub loop-number-preserved : goal.loop-number-preserved
 loop-number-preserved c =
@@ -13,7 +13,7 @@ loop-number-preserved c =
     let n = c.loop-number.number in
     let h = c.loop-number.invariant in
     elim c.if-size-length.branch [
-      | then-size-length+in_ok-next+in_ok-map_err w ↦
+      | then-size-length+in_ok-next+in_ok-add w ↦
           let bundles : c.if-size-length.bundles ≡ c.loop-number.bundles ++ c.loop-number.bundle ∷ [] = search rules in
           let bundle : c.if-size-length.bundle ≡ n ∷ [] = search rules in
           record {
@@ -22,7 +22,7 @@ loop-number-preserved c =
             size = rw bundle (omega arith);
             small = omega arith;
           }
-      | else-size-length+in_ok-map_err-2 w ↦
+      | else-size-length+in_ok-add-2 w ↦
           let bundles : c.if-size-length.bundles ≡ c.loop-number.bundles = search rules in
           let bundle : c.if-size-length.bundle ≡ c.loop-number.bundle ++ n ∷ [] = search rules in
           record {
@@ -35,10 +35,10 @@ loop-number-preserved c =
 
 pub returns-clause-once : goal.returns-clause-once
 returns-clause-once c =
-    let filled : AreUniform c.args.lengths.now c.args.maps c.push-2.new.self = search rules in
+    let filled : AreUniform c.args.lengths.now c.args.maps c.add-2.new.self = search rules in
     filled_once filled
 
 pub returns-clause-few : goal.returns-clause-few
 returns-clause-few c =
-    let filled : AreUniform c.args.lengths.now c.args.maps c.push-2.new.self = search rules in
+    let filled : AreUniform c.args.lengths.now c.args.maps c.add-2.new.self = search rules in
     filled_few filled

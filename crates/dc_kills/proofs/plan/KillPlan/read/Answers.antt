@@ -1,14 +1,10 @@
 -- Each way through a line, and the end.
 use Rattle.std.proofs.Common.{◌≡◌, ℕ, List, [], ◌∷◌, length, refl, arith, rules}
 use Rattle.std.proofs.lemmas.Bool.Decides.{nat_tests}
+use Rattle.std.proofs.lemmas.List.{nil_from_length}
 use Rattle.dc_kills.specs.Reading.{GainsLine}
 use Rattle.dc_kills.proofs.Reading.{reading_end, reading_stops, reading_more}
 use Rattle.dc_kills.proofs.plan.KillPlan.read.Goals as goal
-
--- a text without bytes
-no_bytes : (text : List ℕ) → length text ≡ 0 → text ≡ []
-no_bytes [] h = refl
-no_bytes (b ∷ text) h = absurd (omega arith)
 
 pub loop-rest-preserved : goal.loop-rest-preserved
 loop-rest-preserved c =
@@ -21,7 +17,7 @@ loop-rest-preserved c =
 
 pub returns-clause-plan : goal.returns-clause-plan
 returns-clause-plan c =
-    let none : c.loop-rest.rest.now ≡ [] = no_bytes c.loop-rest.rest.now (grind (arith, nat_tests, c.loop-rest-test.ensures)) in
+    let none : c.loop-rest.rest.now ≡ [] = nil_from_length c.loop-rest.rest.now (grind (arith, nat_tests, c.loop-rest-test.ensures)) in
     record {
       faultless = reading_end c.loop-rest.invariant.reading none;
       stops = reading_stops c.loop-rest.invariant.reading none;
