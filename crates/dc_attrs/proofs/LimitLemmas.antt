@@ -1,11 +1,11 @@
--- Attributes whose fields come from attributes within the limits are within the limits.
-use Rattle.std.proofs.Common.{◌≡◌, ◌≤◌, ℕ, List, Bool, true, false, cond, not, Option, Some, None, length, nat_lt, refl, sym, ap, subst, ◌∙◌, arith}
-use Rattle.std.proofs.lemmas.Bool.Decides.{nat_tests}
+-- Attributes within the limits: each limit as a fact, and attributes whose fields come from such attributes.
+use Rattle.std.proofs.Common.{◌≡◌, ◌≤◌, ℕ, List, Bool, true, false, cond, not, Option, Some, None, length, nat_lt, refl, sym, ap, subst, ◌∙◌}
 use Rattle.dc_attrs.specs.Attributes.{Attributes}
 use Rattle.dc_attrs.specs.Limits.{bad_field, are_xattrs}
 use Rattle.dc_attrs.specs.declared.attributes.Xattr.{Xattr}
 use Rattle.dc_attrs.specs.declared.attributes.Field.{Field}
 use Rattle.dc_attrs.specs.declared.attributes.Field.TheVariants as field
+use Rattle.std.proofs.lemmas.Bool.{ltb-false, not-false}
 
 -- the first of some tests that is true names the field
 tests : Bool → Bool → Bool → Bool → Bool → Bool → Bool → Option Field
@@ -40,33 +40,26 @@ within : (a : Attributes) → bad_field a ≡ None → AllFalse (nat_lt 32767 a.
 within a h = all_false _ _ _ _ _ _ _ (sym (as_tests a) ∙ h)
 
 -- each limit, as a fact
-under : (most n : ℕ) → nat_lt most n ≡ false → n ≤ most
-under most n h = grind (arith, nat_tests)
-
 pub most_replication : (a : Attributes) → bad_field a ≡ None → a.replication ≤ 32767
-most_replication a h = under 32767 a.replication (within a h).replication
+most_replication a h = ltb-false 32767 a.replication (within a h).replication
 
 pub most_block_size : (a : Attributes) → bad_field a ≡ None → a.block_size ≤ 1099511627776
-most_block_size a h = under 1099511627776 a.block_size (within a h).block_size
+most_block_size a h = ltb-false 1099511627776 a.block_size (within a h).block_size
 
 pub most_user : (a : Attributes) (text : List ℕ) → bad_field a ≡ None → text ≡ a.user → length text ≤ 255
-most_user a text h e = subst (λ (t : List ℕ). length t ≤ 255) (sym e) (under 255 (length a.user) (within a h).user)
+most_user a text h e = subst (λ (t : List ℕ). length t ≤ 255) (sym e) (ltb-false 255 (length a.user) (within a h).user)
 
 pub most_group : (a : Attributes) (text : List ℕ) → bad_field a ≡ None → text ≡ a.group → length text ≤ 255
-most_group a text h e = subst (λ (t : List ℕ). length t ≤ 255) (sym e) (under 255 (length a.group) (within a h).group)
+most_group a text h e = subst (λ (t : List ℕ). length t ≤ 255) (sym e) (ltb-false 255 (length a.group) (within a h).group)
 
 pub most_mode : (a : Attributes) → bad_field a ≡ None → a.mode ≤ 1023
-most_mode a h = under 1023 a.mode (within a h).mode
+most_mode a h = ltb-false 1023 a.mode (within a h).mode
 
 pub most_acl : (a : Attributes) (text : List ℕ) → bad_field a ≡ None → text ≡ a.acl → length text ≤ 4096
-most_acl a text h e = subst (λ (t : List ℕ). length t ≤ 4096) (sym e) (under 4096 (length a.acl) (within a h).acl)
-
-negated : (b : Bool) → not b ≡ false → b ≡ true
-negated true h = refl
-negated false h = absurd (cc)
+most_acl a text h e = subst (λ (t : List ℕ). length t ≤ 4096) (sym e) (ltb-false 4096 (length a.acl) (within a h).acl)
 
 pub xattrs_are : (a : Attributes) (xattrs : List Xattr) → bad_field a ≡ None → xattrs ≡ a.xattrs → are_xattrs xattrs ≡ true
-xattrs_are a xattrs h e = ap are_xattrs e ∙ negated (are_xattrs a.xattrs) (within a h).xattrs
+xattrs_are a xattrs h e = ap are_xattrs e ∙ not-false (are_xattrs a.xattrs) (within a h).xattrs
 
 none_of : (r b u g m a x : Bool) → AllFalse r b u g m a x → tests r b u g m a x ≡ None
 unfolding tests

@@ -1,5 +1,5 @@
 -- Trees: what a look at them shows, and what stands under what.
-use Rattle.std.proofs.Common.{◌≡◌, ℕ, List, [], ◌∷◌, ◌++◌, length, true, Option, Some, None, refl, sym, ◌∙◌, ap, subst, append_assoc}
+use Rattle.std.proofs.Common.{◌≡◌, ℕ, List, [], ◌∷◌, ◌++◌, length, true, Option, Some, None, refl, sym, ◌∙◌, ap, subst, append_assoc, Bool, cond, false}
 use Rattle.std.proofs.lemmas.List.{append-nil}
 use Rattle.std.specs.Option.{is_some}
 use Rattle.dc_path.specs.Paths.{Names}
@@ -72,3 +72,9 @@ seen_from-there t front (x ∷ rest) n v e =
 pub there_is : (o : Option Node) → is_some o ≡ true → (n : Node) × (o ≡ Some n)
 there_is None h = absurd (cc)
 there_is (Some n) h = (n, refl)
+
+-- ---- what a test hides, and what it does not
+-- what is listed stands under the source
+pub stands_at : (b : Bool) (o : Option Node) (n : Node) → cond b None o ≡ Some n → o ≡ Some n
+stands_at true o n e = cc
+stands_at false o n e = e

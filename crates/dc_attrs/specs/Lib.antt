@@ -3,3 +3,6 @@ pub mod Limits
 pub mod Trees
 pub mod Refusals
 pub mod Keeping
+pub mod Fitting
+pub mod Lines
+pub mod Spelling

@@ -1,9 +1,7 @@
 -- Trees as functions from paths (HDFS, "The File System Namespace"), what a change makes of them, and what a look at them shows.
 use Rattle.std.specs.Prelude.{◌≡◌, ℕ, Bool, true, false, cond, List, [], ◌∷◌, ◌++◌, length, Option, Some, None, codes}
-use Rattle.std.specs.Option.{is_some}
-use Rattle.std.specs.List.{list_any}
 use Rattle.dc_path.specs.Names.{same_name}
-use Rattle.dc_path.specs.Paths.{Names, same_path, cut, at_cut}
+use Rattle.dc_path.specs.Paths.{Names, same_path, cut, at_cut, has_name}
 use Rattle.dc_attrs.specs.Attributes.{Attributes, default_dir}
 use Rattle.dc_attrs.specs.declared.shown.Seen.{Seen}
 use Rattle.dc_attrs.specs.declared.shown.Seen.TheVariants as seen_as
@@ -20,8 +18,17 @@ Tree = Names → Option Node
 abbrev pub IsDirAt : Tree → Names → Type 0
 IsDirAt t p = (a : Attributes) × (t p ≡ Some (Dir a))
 
+-- something stands at the path
 abbrev pub IsThere : Tree → Names → Type 0
-IsThere t p = is_some (t p) ≡ true
+IsThere t p = (n : Node) × (t p ≡ Some n)
+
+-- nothing stands at the path, and its parent is a directory
+pub record IsFree (t : Tree) (p : Names) : Type 0 where
+  pub absent : t p ≡ None
+  pub parent : Names
+  pub name : List ℕ
+  pub path : p ≡ parent ++ name ∷ []
+  pub dir : IsDirAt t parent
 
 -- the root is a directory, and so is the parent of each path that stands
 pub record IsTree (t : Tree) : Type 0 where
@@ -34,7 +41,7 @@ snapshot = codes ".snapshot"
 
 -- a path below a walk's root is hidden where it has that name
 abbrev pub is_hidden : Names → Bool
-is_hidden rel = list_any (same_name snapshot) rel
+is_hidden rel = has_name snapshot rel
 
 -- a valid tree: under a directory that has snapshots, no path outside them has their name
 pub record IsValid (t : Tree) : Type 0 where
@@ -53,6 +60,10 @@ updated t p change q = cond (same_path p q) (change (t q)) (t q)
 -- the tree with this node at p
 abbrev pub with_node : Tree → Names → Node → Tree
 with_node t p n = updated t p (λ _. Some n)
+
+-- the root alone, as a new directory
+abbrev pub bare : Tree
+bare = with_node (λ _. None) [] (Dir default_dir)
 
 -- the tree without p and what is under it
 abbrev pub without : Tree → Names → Tree
@@ -83,6 +94,15 @@ abbrev pub seen : Tree → Names → Seen
 seen t p = seen_from t [] p
 
 -- ---- a node, taken apart
+-- a directory, and a directory where something stands
+abbrev pub is_dir : Node → Bool
+is_dir (Dir a) = true
+is_dir (File b a) = false
+
+abbrev pub is_dir_node : Option Node → Bool
+is_dir_node None = false
+is_dir_node (Some n) = is_dir n
+
 abbrev pub bytes_of : Option Node → Option (List ℕ)
 bytes_of None = None
 bytes_of (Some (Dir a)) = None

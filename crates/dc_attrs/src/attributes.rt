@@ -1,7 +1,8 @@
 //! Attributes, with their limits.
 #![tactic(auto)]
 
-ghost use Rattle.std.specs.Prelude.{◌≡◌, ◌≤◌, true, List as Items, length, IfOk, Ok, Err, not, take, map, cond};
+ghost use Rattle.std.specs.Prelude.{◌≡◌, ◌≤◌, ℕ, true, None, length, IfOk, map, cond};
+ghost use Rattle.std.specs.List.{list_all};
 ghost use Rattle.dc_attrs.specs.Limits.{bad_field, checked, is_xattr, rises, are_xattrs, name_of};
 ghost use Rattle.dc_attrs.specs.Attributes.{Attributes, default_file, default_dir, fits_file, fits_dir};
 ghost use Rattle.dc_attrs.specs.Keeping.{overlay, keeps, same_kept};
@@ -84,11 +85,61 @@ impl Model for Attrs {
 }
 
 impl Attrs {
+    /// The attributes with these values. It takes no memory.
+    ///
+    /// # Errors
+    ///
+    /// `Bad` with the first field that passes its limit, in the order replication, block size, user, group, mode, ACL,
+    /// extended attributes. The values are given up then.
+    pub fn new(
+        replication: u16,
+        block_size: u64,
+        user: Text,
+        group: Text,
+        mode: u16,
+        acl: Text,
+        xattrs: List<Xattr>,
+        mtime: u64,
+    ) -> Result<Attrs, AttrsError>
+        ensures { result ≡ checked (record { replication = replication; block_size = block_size; user = user; group = group; mode = mode; acl = acl; xattrs = xattrs; mtime = mtime }) }
+    {
+        let bad = bad_field(
+            replication,
+            block_size,
+            user.as_str(),
+            group.as_str(),
+            mode,
+            acl.as_str(),
+            xattrs.as_slice(),
+        );
+        if let Some(field) = bad {
+            return Err(AttrsError::Bad { field });
+        }
+        Ok(Attrs {
+            replication,
+            block_size,
+            user,
+            group,
+            mode,
+            acl,
+            xattrs,
+            mtime,
+        })
+    }
+
+    /// Each `Attrs` is within the limits. The call does nothing.
+    pub fn limits(&self)
+        ensures { bad_field self.now ≡ None }
+    {
+        let _time = self.mtime;
+    }
+
     /// The attributes of a new file: replication 3, block size 134,217,728, mode octal 644, nothing else.
     /// It takes no memory.
     #[tactic(auto, unfolding(crate::specs::Attributes::default_file, crate::specs::Limits::bad_field))]
     pub fn default_file(alloc: Global) -> Attrs
-        ensures { result ≡ default_file }
+        ensures value { result ≡ default_file }
+        ensures fits { fits_file result ≡ true }
     {
         Attrs {
             replication: 3,
@@ -106,7 +157,8 @@ impl Attrs {
     /// It takes no memory.
     #[tactic(auto, unfolding(crate::specs::Attributes::default_dir, crate::specs::Limits::bad_field))]
     pub fn default_dir(alloc: Global) -> Attrs
-        ensures { result ≡ default_dir }
+        ensures value { result ≡ default_dir }
+        ensures fits { fits_dir result ≡ true }
     {
         Attrs {
             replication: 0,
@@ -223,6 +275,86 @@ impl Attrs {
             mtime: self.mtime,
         })
     }
+}
+
+// Whether an extended attribute has a name of 1 to 255 bytes and a value of at most 4,096.
+fn is_xattr(xattr: &Xattr) -> bool
+    ensures { result ≡ is_xattr xattr.now }
+{
+    let name = xattr.name.as_str();
+    let value = xattr.value.as_str();
+    1 <= name.len() && name.len() <= 255 && value.len() <= 4096
+}
+
+// Whether each extended attribute is within its limits.
+fn all_xattrs(xattrs: &[Xattr]) -> bool
+    ensures { result ≡ list_all is_xattr xattrs.now }
+{
+    xattrs.iter().all(|xattr| is_xattr(xattr))
+}
+
+// Whether each name comes before the next.
+fn rises(xattrs: &[Xattr]) -> bool
+    ensures { result ≡ rises (map name_of xattrs.now) }
+{
+    for place in 1..xattrs.len() {
+        let before = xattrs[place - 1].name.as_str();
+        let name = xattrs[place].name.as_str();
+        if before >= name {
+            return false;
+        }
+    }
+    true
+}
+
+// Whether there are at most 32 extended attributes, each within its limits, in strictly ascending order of names.
+fn are_xattrs(xattrs: &[Xattr]) -> bool
+    ensures { result ≡ are_xattrs xattrs.now }
+{
+    if xattrs.len() > 32 {
+        return false;
+    }
+    if !all_xattrs(xattrs) {
+        return false;
+    }
+    rises(xattrs)
+}
+
+// The first field that passes its limit.
+#[tactic(auto, unfolding(crate::specs::Limits::bad_field))]
+fn bad_field(
+    replication: u16,
+    block_size: u64,
+    user: &str,
+    group: &str,
+    mode: u16,
+    acl: &str,
+    xattrs: &[Xattr],
+) -> Option<Field>
+    ensures { (time : ℕ) → result ≡ bad_field (record { replication = replication; block_size = block_size; user = user.now; group = group.now; mode = mode; acl = acl.now; xattrs = xattrs.now; mtime = time }) }
+{
+    if replication > 32_767 {
+        return Some(Field::Replication);
+    }
+    if block_size > 1_099_511_627_776 {
+        return Some(Field::BlockSize);
+    }
+    if user.len() > 255 {
+        return Some(Field::User);
+    }
+    if group.len() > 255 {
+        return Some(Field::Group);
+    }
+    if mode > 0o1777 {
+        return Some(Field::Mode);
+    }
+    if acl.len() > 4096 {
+        return Some(Field::Acl);
+    }
+    if !are_xattrs(xattrs) {
+        return Some(Field::Xattrs);
+    }
+    None
 }
 
 // An equal extended attribute.

@@ -3,11 +3,16 @@
 #![tactic(auto)]
 
 mod attributes;
+mod escapes;
 mod keeping;
+pub mod laws;
+mod lines;
+mod pairs;
 mod refusals;
 mod shown;
 
 pub use attributes::{Attrs, AttrsError, Field, Xattr, overlay, same_kept};
 pub use keeping::{Keep, KeepError};
+pub use lines::LineError;
 pub use refusals::TreeError;
 pub use shown::Seen;
