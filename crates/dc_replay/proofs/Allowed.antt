@@ -4,41 +4,29 @@ use Rattle.std.specs.List.{list_any, filter}
 use Rattle.std.proofs.lemmas.List.{append-nil}
 use Rattle.std.proofs.lemmas.Bool.{and_parts, false_from_ne_true, and_right}
 use Rattle.dc_attrs.specs.Attributes.{default_dir}
-use Rattle.dc_attrs.specs.Trees.{Dir, IsDirAt, Node, Tree, with_node}
+use Rattle.dc_attrs.specs.Trees.{Dir, IsDirAt, Node, Tree, with_node, IsThere}
 use Rattle.dc_path.specs.Order.{path_lt}
 use Rattle.dc_path.specs.Paths.{Names, at_cut, cut, same_path, is_above}
-use Rattle.dc_report.proofs.Fronts.{above_append}
+use Rattle.dc_path.proofs.Fronts.{above_append}
 use Rattle.dc_report.proofs.WalkLemmas.{fresh_snoc}
 use Rattle.dc_report.specs.Carrying.{Carry, Has, Place, Plan, Stays, With, carrier, is_fresh, is_made, moved}
 use Rattle.dc_replay.specs.Arrivals.{From, arrival}
 use Rattle.dc_replay.specs.Checking.{IsOff}
 use Rattle.dc_replay.specs.Steps.{AreAllowed, IsAllowed}
 use Rattle.dc_report.specs.Moves.{fronts, is_new_parent, parents, placing, label_of}
-use Rattle.dc_replay.specs.Places.{IsNodeAt}
 use Rattle.dc_report.specs.declared.entries.Move.TheVariants.{Make, Shift}
-use Rattle.dc_replay.proofs.Staging.{allowed-append, staged, IsAscending, carrier_stays}
+use Rattle.dc_replay.proofs.Staging.{allowed-append, staged, IsAscending}
 use Rattle.dc_replay.proofs.Where.{IsPlaceOf, arrived, arrived_as, IsDescending, slot_own, carrier_own, OwnCarry, arrived_came, CameFrom, IsSettled, moved_arrives, place_carry}
-use Rattle.dc_replay.proofs.Placing.{placed, makes_give, prepared, IsPart, part_tail, fresh_label, placing_gives, prepared_stage, prepared_at, none_above, above_lt, not_less}
-use Rattle.dc_report.proofs.PathOrder.{is_above-by_cut, is_rest, cut-less, path_lt-irrefl}
-use Rattle.dc_path.proofs.PathLemmas.{cut-append, append-cut, same_path-refl, same_path-true, Last, empty, ended, last_case}
+use Rattle.dc_replay.proofs.Placing.{placed, makes_give, prepared, IsPart, part_tail, fresh_label, placing_gives, prepared_stage, prepared_at, none_above}
+use Rattle.dc_path.proofs.PathOrder.{is_above-by_cut, is_rest, cut-less, path_lt-irrefl, path_lt-asym, above_less}
+use Rattle.dc_path.proofs.PathLemmas.{cut-append, append-cut, same_path-refl, same_path-true, Ended, ended_cons}
 use Rattle.dc_path.proofs.OrderLemmas.{path_lt-trans}
-use Rattle.dc_replay.proofs.Tracking.{dir_or}
 use Rattle.dc_report.proofs.HasLemmas.{has_any}
+use Rattle.dc_report.proofs.Lists.{both_so}
+use Rattle.dc_report.proofs.Carriers.{carrier_stays}
+use Rattle.dc_attrs.proofs.TreeChanges.{dir_or, dir_kept}
 
 -- ---- the last name of a path
-pub record Ended (p : Names) : Type 0 where
-  pub front : Names
-  pub name : List ℕ
-  pub path : p ≡ front ++ name ∷ []
-
--- a path with a name has a last one
-pub ended_cons : (x : List ℕ) (p : Names) → Ended (x ∷ p)
-ended_cons x p = by_last (last_case (x ∷ p))
-  where
-    by_last : Last (x ∷ p) → Ended (x ∷ p)
-    by_last (empty e) = absurd (cc)
-    by_last (ended front name e) = record { front = front; name = name; path = e }
-
 pub ended_off : (st : List ℕ) (p : Names) → IsOff st p → Ended p
 ended_off st p off = subst (λ (q : Names). Ended q) (sym off.path) (ended_cons off.first off.rest)
 
@@ -50,7 +38,7 @@ pub record Checked (st : List ℕ) (P : Plan) (A : Tree) : Type 0 where
   pub news_off : (n : Place) → Has P.news n → IsOff st n.new
   pub no_root : list_any (λ c. same_path c []) P.places ≡ false
   -- what is carried away stands, and what is created has a directory that stays
-  pub olds : (c : Carry) → Has P.carries c → IsNodeAt A c.old
+  pub olds : (c : Carry) → Has P.carries c → IsThere A c.old
   pub created : (d : Names) (y : List ℕ) → list_any (λ c. same_path c (d ++ y ∷ [])) P.places ≡ true → (p : Names) × IsDirAt A p × (moved P.carries p ≡ Some d)
   -- each new path has a parent to land in
   pub landing : (n : Place) (d : Names) (y : List ℕ) → Has P.news n → n.new ≡ d ++ y ∷ [] → (d ≡ []) ⊎ (((p : Names) × IsDirAt A p × (moved P.carries p ≡ Some d)) ⊎ (is_made P P.news d ≡ true))
@@ -87,9 +75,6 @@ rest_of d t (Some (x ∷ r)) e h = record { name = x; rest = r; path = append-cu
 pub above_rest : (d t : Names) → is_above d t ≡ true → Rest d t
 above_rest d t h = rest_of d t (cut d t) refl (sym (is_above-by_cut d t) ∙ h)
 
-above_less : (d t : Names) → is_above d t ≡ true → path_lt d t ≡ true
-above_less d t h = above_lt d d t [] h (rw append-nil at (cut-append d []))
-
 front_at : (st : List ℕ) (d t : Names) → IsOff st t → Rest d t → cut (st ∷ []) d ≡ None
 front_at st [] t off r = refl
 front_at st (z ∷ d) t off r =
@@ -116,18 +101,10 @@ verdict_true true b c h = inl refl
 verdict_true false true c h = absurd (cc)
 verdict_true false false c h = inr (refl, h)
 
-new_parent_parts : (f m : Bool) → (f && not m) ≡ true → (f ≡ true) × (m ≡ false)
-new_parent_parts true true h = absurd (cc)
-new_parent_parts true false h = (refl, refl)
-new_parent_parts false m h = absurd (cc)
-
 old_parent : (f m : Bool) → (f && not m) ≡ false → f ≡ true → m ≡ true
 old_parent true true h e = refl
 old_parent true false h e = absurd (cc)
 old_parent false m h e = absurd (cc)
-
-dir_kept : (t : Tree) (p d : Names) → IsDirAt t d → IsDirAt (with_node t p (Dir default_dir)) d
-dir_kept t p d is = dir_or (same_path p d) (t d) is
 
 longer_path : (front q : Names) (x : List ℕ) → length (front ++ x ∷ []) ≤ length q → same_path front q ≡ false
 longer_path front q x h = false_from_ne_true (same_path front q) (λ k.
@@ -208,7 +185,7 @@ module _ (st : List ℕ) (P : Plan) (A : Tree) (ok : Checked st P A) where
   -- nothing arrived where a parent is to be made
   free_parent : (n : Place) (ns : List Place) → Has P.news n → IsPart st P ns → IsOff st n.new → (q : Names) → is_new_parent P ns q ≡ true → is_above q n.new ≡ true → placed st P A ns q ≡ None
   free_parent n ns h part off q f a =
-      let k = new_parent_parts (is_fresh P q) (is_made P ns q) f in
+      let k = both_so (is_fresh P q) (is_made P ns q) f in
       let m = made_all n q h k.0 a in
       let none : arrived P.carries A ns q ≡ None = none_or (arrived P.carries A ns q) (λ x e.
       let c = arrived_came P.carries A ns q x part.sound e in ok.unmade q c.path x m c.was c.goes) in
@@ -216,7 +193,7 @@ module _ (st : List ℕ) (P : Plan) (A : Tree) (ok : Checked st P A) where
 
   next_parent : (n : Place) (ns : List Place) → IsOff st n.new → Agrees P.carries A P.news (n ∷ ns) → (d : Names) (y : List ℕ) → is_new_parent P ns (d ++ y ∷ []) ≡ true → is_above d n.new ≡ true → is_new_parent P ns d ≡ false → IsDirAt (placed st P A ns) d
   next_parent n ns off g d y f a not_new =
-      let k = new_parent_parts (is_fresh P (d ++ y ∷ [])) (is_made P ns (d ++ y ∷ [])) f in
+      let k = both_so (is_fresh P (d ++ y ∷ [])) (is_made P ns (d ++ y ∷ [])) f in
       ⊎_elim
       (λ i. let c = ok.created d y i in dir_below st P A ok n ns d c.0 off g a c.1 c.2)
       (λ i. made_dir st P A ok n ns d off a (old_parent (is_fresh P d) (is_made P ns d) not_new i.1))
@@ -243,7 +220,7 @@ module _ (st : List ℕ) (P : Plan) (A : Tree) (ok : Checked st P A) where
       not_from P.carries A n ns n.new x ok.settled.ascending (part.sound n (inl refl)) part.descending c (ok.settled.own n c.path x h c.was c.goes))
 
   not_made_yet : (n : Place) (ns : List Place) → IsPart st P (n ∷ ns) → is_made P ns n.new ≡ false
-  not_made_yet n ns part = rw (none_above n.new n.new [] ns self (λ m i l. not_less n.new m.new l (part.descending.0 m i))) (and_right (is_fresh P n.new) false refl)
+  not_made_yet n ns part = rw (none_above n.new n.new [] ns self (λ m i l. path_lt-asym n.new m.new l (part.descending.0 m i))) (and_right (is_fresh P n.new) false refl)
     where
       self : cut n.new n.new ≡ Some []
       self = rw append-nil at (cut-append n.new [])
@@ -290,7 +267,7 @@ module _ (st : List ℕ) (P : Plan) (A : Tree) (ok : Checked st P A) where
           let f = (and_parts (is_fresh P d) (list_any (λ k. is_above d k.new) P.news) j).0 in
           (default_dir, prepared_at st P A n ns d ∙ rw (m, above, f) refl)
 
-  shift_there : (n : Place) (ns : List Place) → IsPart st P (n ∷ ns) → IsNodeAt (prepared st P A n ns) (st ∷ label_of n.label ∷ [])
+  shift_there : (n : Place) (ns : List Place) → IsPart st P (n ∷ ns) → IsThere (prepared st P A n ns) (st ∷ label_of n.label ∷ [])
   shift_there n ns part =
       let c = place_carry P.carries n (part.sound n (inl refl)) in
       let t = ok.olds c.0 c.1 in (

@@ -1,21 +1,13 @@
 -- Moves below a path of a tree.
-use Rattle.std.proofs.Common.{◌≡◌, List, [], ◌∷◌, ◌++◌, true, false, cond, Option, Some, None, refl, sym, ◌∙◌, ap, subst, append_assoc, map}
+use Rattle.std.proofs.Common.{◌≡◌, List, [], ◌∷◌, ◌++◌, Option, Some, None, refl, sym, ◌∙◌, ap, subst, append_assoc, map}
 use Rattle.std.proofs.Math.Path.{fun_ext}
-use Rattle.std.proofs.lemmas.List.{append-nil}
-use Rattle.dc_attrs.specs.Trees.{IsDirAt, IsTree, Tree, at}
-use Rattle.dc_path.specs.Names.{same_name}
+use Rattle.dc_attrs.specs.Trees.{Tree, at, IsThere, IsFree}
 use Rattle.dc_path.specs.Paths.{Names, at_cut, cut}
 use Rattle.dc_replay.specs.Steps.{AreAllowed, IsAllowed, after, graft, step}
 use Rattle.dc_report.specs.Moves.{below}
-use Rattle.dc_replay.specs.Places.{IsFree, IsNodeAt}
 use Rattle.dc_report.specs.declared.entries.Move.{Move}
 use Rattle.dc_report.specs.declared.entries.Move.TheVariants.{Clear, Make, Shift}
-use Rattle.dc_path.proofs.PathLemmas.{cut-append, append-cut, same_path-cut, same_path-not_below}
-
-cut_under : (d p q : Names) → cut (d ++ p) q ≡ at_cut (cut d q) None (cut p)
-cut_under [] p q = refl
-cut_under (x ∷ d) p [] = refl
-cut_under (x ∷ d) p (y ∷ q) = let ih = cut_under d p q in elim (same_name x y) as (λ b. cond b (cut (d ++ p) q) None ≡ at_cut (cond b (cut d q) None) None (cut p)) [ true ↦ ih | false ↦ refl ]
+use Rattle.dc_path.proofs.PathLemmas.{cut-append, append-cut, same_path-cut, same_path-not_below, cut_under, below_root}
 
 pub graft_at : (d : Names) (T A : Tree) (r : Names) → graft d T A (d ++ r) ≡ A r
 graft_at d T A r = rw (cut-append d r) refl
@@ -42,7 +34,7 @@ pub after_below : (d : Names) (T A : Tree) (ms : List Move) → after (map (belo
 after_below d T A [] = refl
 after_below d T A (m ∷ ms) = ap (after (map (below d) ms)) (step_below d T A m) ∙ after_below d T (step m A) ms
 
-there_below : (d : Names) (T A : Tree) (p : Names) → IsNodeAt A p → IsNodeAt (graft d T A) (d ++ p)
+there_below : (d : Names) (T A : Tree) (p : Names) → IsThere A p → IsThere (graft d T A) (d ++ p)
 there_below d T A p t = (t.0, graft_at d T A p ∙ t.1)
 
 free_below : (d : Names) (T A : Tree) (p : Names) → IsFree A p → IsFree (graft d T A) (d ++ p)
@@ -53,10 +45,6 @@ free_below d T A p f = record {
   path = ap (λ (q : Names). d ++ q) f.path ∙ sym (append_assoc d f.parent (f.name ∷ []));
   dir = (f.dir.0, graft_at d T A f.parent ∙ f.dir.1);
 }
-
-below_root : (d p : Names) → cut p [] ≡ None → cut (d ++ p) [] ≡ None
-below_root [] p e = e
-below_root (x ∷ d) p e = refl
 
 pub allowed_below_one : (d : Names) (T A : Tree) (m : Move) → IsAllowed A m → IsAllowed (graft d T A) (below d m)
 allowed_below_one d T A (Make p) a = free_below d T A p a
@@ -69,9 +57,3 @@ allowed_below d T A (m ∷ ms) a = (
   allowed_below_one d T A m a.0,
   subst (λ (t : Tree). AreAllowed t (map (below d) ms)) (sym (step_below d T A m)) (allowed_below d T (step m A) ms a.1),
 )
-
-pub valid_at : (T : Tree) (d : Names) → IsTree T → IsDirAt T d → IsTree (at T d)
-valid_at T d v i = record {
-  root = (i.0, rw append-nil i.1);
-  parents = λ p x n e. v.parents (d ++ p) x n (ap T (append_assoc d p (x ∷ [])) ∙ e);
-}

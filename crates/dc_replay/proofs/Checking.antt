@@ -1,30 +1,25 @@
 -- The tests by looks decide the same as the tests in words.
-use Rattle.std.proofs.Common.{ℕ, ◌≡◌, inl, inr, ⊎_elim, List, [], ◌∷◌, ◌++◌, true, ◌&&◌, Option, Some, None, refl, sym, ◌∙◌, ap, subst}
+use Rattle.std.proofs.Common.{ℕ, ◌≡◌, inl, inr, ⊎_elim, List, [], ◌∷◌, ◌++◌, true, ◌&&◌, Some, None, refl, sym, ◌∙◌, ap, subst}
 use Rattle.std.specs.Prelude.{is_some}
 use Rattle.std.proofs.lemmas.Bool.{and_parts}
-use Rattle.dc_attrs.specs.Trees.{IsDirAt, IsTree, Tree}
+use Rattle.dc_attrs.specs.Trees.{IsDirAt, IsTree, Tree, is_dir_node, IsThere}
 use Rattle.dc_path.specs.Paths.{Names, front_of}
 use Rattle.dc_report.specs.Carrying.{Has, Place, carries_of, moved, place_of, plan}
 use Rattle.dc_report.specs.Apart.{IsReport}
 use Rattle.dc_replay.specs.Checking.{IsStageFree, Looked, Passes, where_to}
-use Rattle.dc_replay.specs.Places.{IsNodeAt}
-use Rattle.dc_replay.specs.Tests.{first_false, is_dir_node, test_entry}
+use Rattle.dc_replay.specs.Tests.{first_false, test_entry}
 use Rattle.dc_report.specs.declared.entries.Entry.{Entry}
 use Rattle.dc_report.specs.declared.entries.Entry.TheVariants.{Created, Deleted, Modified, Renamed}
-use Rattle.dc_replay.proofs.Staging.{carrier_stays}
-use Rattle.dc_replay.proofs.Allowed.{off_root, Ended, ended_cons, ended_off}
+use Rattle.dc_replay.proofs.Allowed.{off_root, ended_off}
 use Rattle.dc_replay.proofs.TrueReport.{IsForm}
 use Rattle.dc_replay.proofs.PlanLemmas.{form_of, checked, placed_from}
 use Rattle.dc_replay.proofs.TrueEntries.{renamed_item}
 use Rattle.dc_replay.proofs.Looks.{IsOwn, looks_own, found, look_leads, checked_looked}
 use Rattle.dc_replay.proofs.Testing.{unless_none, none_unless, dir_there, has_any_path, entry_none, tests_looked, looked_tests}
-use Rattle.dc_path.proofs.PathLemmas.{front_of-append}
+use Rattle.dc_path.proofs.PathLemmas.{front_of-append, Ended, ended_cons, some_rest}
 use Rattle.dc_attrs.proofs.TreeLemmas.{there_is}
 use Rattle.dc_report.proofs.HasLemmas.{has_filter_map}
-
-some_path : (o : Option Names) → is_some o ≡ true → (q : Names) × (o ≡ Some q)
-some_path None e = absurd (cc)
-some_path (Some q) e = (q, refl)
+use Rattle.dc_report.proofs.Carriers.{carrier_stays}
 
 -- ---- where no look fails, the tests in words hold
 pub passes_from : (st : List ℕ) (R : List Entry) (A : Tree) → IsReport R → IsTree A → IsStageFree st R A → first_false R A ≡ None → Passes st R A
@@ -57,7 +52,7 @@ passes_from st R A is v free pass = record {
         let k = unless_none (is_dir_node (A (front_of (d ++ x ∷ []))) && is_some (moved (carries_of R) (front_of (d ++ x ∷ [])))) (d ++ x ∷ []) (entry_none (plan R) A R pass (Created (d ++ x ∷ [])) h) in
         let g : (is_dir_node (A d) && is_some (moved (carries_of R) d)) ≡ true = subst (λ (u : Names). (is_dir_node (A u) && is_some (moved (carries_of R) u)) ≡ true) (front_of-append d x) k in
         let b = and_parts (is_dir_node (A d)) (is_some (moved (carries_of R) d)) g in
-        (dir_there (A d) b.0, some_path (moved (carries_of R) d) b.1)
+        (dir_there (A d) b.0, some_rest (moved (carries_of R) d) b.1)
 
 -- ---- where they hold, no look fails
 pub passes_to : (st : List ℕ) (R : List Entry) (A : Tree) → IsReport R → IsTree A → Passes st R A → first_false R A ≡ None
@@ -86,7 +81,7 @@ passes_to st R A is v ok = looked_tests (plan R) A R entry_ok last looked
         let k = ok.created l.front l.name (subst (λ (u : Names). Has R (Created u)) l.path h) in
         both_true (x ∷ c) l.front (ap front_of l.path ∙ front_of-append l.front l.name) k.0 k.1
 
-    there_ok : (p : Names) → IsNodeAt A p → is_some (A p) ≡ true
+    there_ok : (p : Names) → IsThere A p → is_some (A p) ≡ true
     there_ok p t = rw t.1 refl
 
     entry_ok : (e : Entry) → Has R e → test_entry (plan R) A e ≡ None

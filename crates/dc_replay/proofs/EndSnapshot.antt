@@ -6,21 +6,20 @@ use Rattle.std.proofs.lemmas.Bool.{and_parts, or_parts}
 use Rattle.std.proofs.lemmas.Option.{same_Some}
 use Rattle.dc_attrs.specs.Trees.{Dir, IsDirAt, IsTree, Node, Tree, at}
 use Rattle.dc_attrs.proofs.TreeLemmas.{front_is_dir}
-use Rattle.dc_path.specs.Paths.{Names, is_above}
+use Rattle.dc_path.specs.Paths.{Names, is_above, has_name}
 use Rattle.dc_path.proofs.PathLemmas.{same_path-refl}
-use Rattle.dc_replay.specs.Arrivals.{came, leads, shifted, source}
+use Rattle.dc_replay.specs.Arrivals.{came, shifted, source}
 use Rattle.dc_report.specs.Carrying.{Has, carries_of, is_fresh, moved, plan}
 use Rattle.dc_report.specs.Apart.{IsReport}
 use Rattle.dc_report.specs.Moves.{moves_of}
 use Rattle.dc_replay.specs.Checking.{IsStageFree, NoneMovedTo, Passes, is_to_be_made, where_to}
 use Rattle.dc_replay.specs.Replaying.{EndIsReached, IsShifted}
 use Rattle.dc_replay.specs.Steps.{after}
-use Rattle.dc_replay.specs.Truth.{HasNoHidden, HasSameKinds, IsLikeness, IsTrueOf, KeepsNodes, are_alike, is_hidden, is_listed, kind, plain, takes_modified, with_listed}
+use Rattle.dc_replay.specs.Truth.{HasNoHidden, HasSameKinds, IsLikeness, IsTrueOf, KeepsNodes, are_alike, is_listed, kind, plain, takes_modified, with_listed}
 use Rattle.dc_report.specs.declared.entries.Entry.{Entry}
 use Rattle.dc_report.specs.declared.entries.Entry.TheVariants.{Modified}
-use Rattle.dc_replay.proofs.Base.{graft_at, valid_at}
+use Rattle.dc_replay.proofs.Base.{graft_at}
 use Rattle.dc_report.proofs.HasLemmas.{any_has, has_any}
-use Rattle.dc_replay.proofs.Staging.{carrier_stays}
 use Rattle.dc_replay.proofs.Where.{moved_arrives}
 use Rattle.dc_replay.proofs.Allowed.{Checked, above_rest, off_root, none_or}
 use Rattle.dc_replay.proofs.Final.{came_arrives, leads_true, cond_some, none_cond}
@@ -28,6 +27,9 @@ use Rattle.dc_replay.proofs.TrueReport.{IsForm, new_there, true_passes}
 use Rattle.dc_replay.proofs.PlanLemmas.{form_of}
 use Rattle.dc_replay.proofs.TrueEntries.{plan_true, plain_some, plain_at, plain_valid, from_seen, true_makes_check_pass}
 use Rattle.dc_replay.proofs.Replaying.{replaying, shifted_is}
+use Rattle.dc_report.proofs.Carriers.{carrier_stays}
+use Rattle.dc_report.specs.Landings.{is_at}
+use Rattle.dc_attrs.proofs.TreeChanges.{valid_at}
 
 -- ---- nodes that count as the same
 like_some : (like : Node → Node → Bool) (a o : Option Node) (x : Node) → are_alike like a o ≡ true → o ≡ Some x → (y : Node) × (a ≡ Some y) × (like y x ≡ true)
@@ -66,7 +68,7 @@ module _ (s st : List ℕ) (R : List Entry) (A O N : Tree) (like : Node → Node
   form = form_of st R is free.deleted free.renamed
 
   no_stage : O (st ∷ []) ≡ None
-  no_stage = like_none like (plain s A (st ∷ [])) (O (st ∷ [])) (rw free.stage (none_cond (is_hidden s (st ∷ [])))) (same (st ∷ []) (λ e. cc))
+  no_stage = like_none like (plain s A (st ∷ [])) (O (st ∷ [])) (rw free.stage (none_cond (has_name s (st ∷ [])))) (same (st ∷ []) (λ e. cc))
 
   of_begin : Checked st (plan R) O
   of_begin = true_passes st (plan R) O N form (plan_true st R O N t) o w no_stage
@@ -81,17 +83,17 @@ module _ (s st : List ℕ) (R : List Entry) (A O N : Tree) (like : Node → Node
   not_root p q off m e = off (same_Some q [] (sym m ∙ ap (moved (carries_of R)) e ∙ root_goes))
 
   unmodified : (p q : Names) → list_any (takes_modified R q) R ≡ false → where_to R p ≡ Some q → Has R (Modified p) → ⊥
-  unmodified p q un m h = let k : true ≡ false = sym (has_any (takes_modified R q) R (Modified p) h (ap (λ (u : Option Names). leads u q) m ∙ same_path-refl q)) ∙ un in cc
+  unmodified p q un m h = let k : true ≡ false = sym (has_any (takes_modified R q) R (Modified p) h (ap (λ (u : Option Names). is_at u q) m ∙ same_path-refl q)) ∙ un in cc
 
   survivor : (q : Names) (x y : Node) → list_any (takes_modified R q) R ≡ false → (q ≡ [] → ⊥) → came (plan R) O q ≡ Some x → are_alike like (shifted (plan R) A q) (N q) ≡ true
   survivor q x y un root c =
       let p = source (plan R).news q in
-      let k = cond_some (leads (where_to R p) q) (O p) x c in
+      let k = cond_some (is_at (where_to R p) q) (O p) x c in
       let m : where_to R p ≡ Some q = leads_true (where_to R p) q k.0 in
       let low = not_root p q root m in
       let i : N q ≡ Some x = keeps p q x (unmodified p q un m) low k.1 m in
       let l = like_some like (plain s A p) (O p) x (same p low) k.1 in
-      let a : A p ≡ Some l.0 = (plain_some (is_hidden s p) (A p) l.0 l.1).1 in
+      let a : A p ≡ Some l.0 = (plain_some (has_name s p) (A p) l.0 l.1).1 in
       rw (is_shifted.moved p q l.0 a m, i) l.2
 
   no_survivor : (q : Names) → came (plan R) O q ≡ None → NoneMovedTo R O q
@@ -106,7 +108,7 @@ module _ (s st : List ℕ) (R : List Entry) (A O N : Tree) (like : Node → Node
       front_is_dir N q r.name r.rest y.0 (N q) w (ap N (sym r.path) ∙ y.1) refl
 
   -- and where nothing stands there, the moves leave nothing
-  pub both_none : (q : Names) → (q ≡ [] → ⊥) → is_hidden s q ≡ false → N q ≡ None → shifted (plan R) A q ≡ None
+  pub both_none : (q : Names) → (q ≡ [] → ⊥) → has_name s q ≡ false → N q ≡ None → shifted (plan R) A q ≡ None
   both_none q root h n = none_or (shifted (plan R) A q) (λ x e. ⊎_elim (λ k. from_path x k) (λ k. let d = made_there q k in let f : Some (Dir d.0) ≡ None = sym d.1 ∙ n in cc) (is_shifted.only q x e))
     where
       from_path : (x : Node) → (p : Names) × (A p ≡ Some x) × (where_to R p ≡ Some q) → ⊥
@@ -117,7 +119,7 @@ module _ (s st : List ℕ) (R : List Entry) (A O N : Tree) (like : Node → Node
           let f : Some l.0 ≡ None = sym l.1 ∙ n in cc
 
   -- where nothing is listed, the moves alone give the later snapshot
-  pub end_snapshot : (q : Names) → (q ≡ [] → ⊥) → is_hidden s q ≡ false → is_listed R q ≡ false → are_alike like (shifted (plan R) A q) (N q) ≡ true
+  pub end_snapshot : (q : Names) → (q ≡ [] → ⊥) → has_name s q ≡ false → is_listed R q ≡ false → are_alike like (shifted (plan R) A q) (N q) ≡ true
   end_snapshot q root h un = by_end (N q) refl (came (plan R) O q) refl
     where
       parts : (is_fresh (plan R) q ≡ false) × (list_any (takes_modified R q) R ≡ false)
@@ -129,7 +131,7 @@ module _ (s st : List ℕ) (R : List Entry) (A O N : Tree) (like : Node → Node
       by_end (Some y) e (Some x) f = survivor q x y parts.1 root f
 
 pub end_reached : EndIsReached
-end_reached s st d R T O N like is seen free v dir o w likeness t keeps same p root = by_hidden (is_hidden s p) refl
+end_reached s st d R T O N like is seen free v dir o w likeness t keeps same p root = by_hidden (has_name s p) refl
   where
     A : Tree
     A = at T d
@@ -144,18 +146,18 @@ end_reached s st d R T O N like is seen free v dir o w likeness t keeps same p r
     goes = ap (λ (u : Tree). u (d ++ p)) (replaying st d R T is v dir ok).gives ∙ graft_at d T (shifted (plan R) A) p
 
     -- what is listed and stands is as it stands, and where nothing stands the moves leave nothing
-    copied : is_hidden s p ≡ false → (n : Option Node) → N p ≡ n → are_alike like (option_or n (X p)) n ≡ true
+    copied : has_name s p ≡ false → (n : Option Node) → N p ≡ n → are_alike like (option_or n (X p)) n ≡ true
     copied h None e =
         let k = both_none s st R A (plain s O) (plain s N) like likeness is seen free (valid_at T d v dir) (plain_valid s O o) (plain_valid s N w) same t keeps p root h (plain_at s N p h ∙ e) in
         ap (λ (u : Option Node). are_alike like u None) (goes ∙ k)
     copied h (Some y) e = likeness.same y
 
-    by_listed : is_hidden s p ≡ false → (b : Bool) → is_listed R p ≡ b → are_alike like (cond b (option_or (N p) (X p)) (X p)) (N p) ≡ true
+    by_listed : has_name s p ≡ false → (b : Bool) → is_listed R p ≡ b → are_alike like (cond b (option_or (N p) (X p)) (X p)) (N p) ≡ true
     by_listed h true l = copied h (N p) refl
     by_listed h false l =
         let k = end_snapshot s st R A (plain s O) (plain s N) like likeness is seen free (valid_at T d v dir) (plain_valid s O o) (plain_valid s N w) same t keeps p root h l in
         ap (λ (u : Option Node). are_alike like u (N p)) goes ∙ ap (are_alike like (shifted (plan R) A p)) (sym (plain_at s N p h)) ∙ k
 
-    by_hidden : (b : Bool) → is_hidden s p ≡ b → are_alike like (cond b None (with_listed R N X p)) (cond b None (N p)) ≡ true
+    by_hidden : (b : Bool) → has_name s p ≡ b → are_alike like (cond b None (with_listed R N X p)) (cond b None (N p)) ≡ true
     by_hidden true h = refl
     by_hidden false h = by_listed h (is_listed R p) refl

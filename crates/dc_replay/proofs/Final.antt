@@ -7,25 +7,26 @@ use Rattle.dc_attrs.specs.Trees.{Dir, IsTree, Node, Tree}
 use Rattle.dc_path.specs.Names.{same_name}
 use Rattle.dc_path.specs.Paths.{Names, at_cut, cut, is_above}
 use Rattle.dc_report.specs.Carrying.{Has, Place, Plan, is_made, moved, is_fresh}
-use Rattle.dc_replay.specs.Arrivals.{Here, arrival, came, leads, shifted, source}
+use Rattle.dc_replay.specs.Arrivals.{Here, arrival, came, shifted, source}
 use Rattle.dc_replay.specs.Checking.{IsOff}
 use Rattle.dc_replay.specs.Steps.{AreAllowed, after, step}
 use Rattle.dc_report.specs.Moves.{moves, placing, staging}
 use Rattle.dc_report.specs.declared.entries.Move.TheVariants.{Clear, Make}
 use Rattle.dc_replay.proofs.Staging.{after-append, allowed-append, staged, stage_start, staging_gives, staging_allowed}
-use Rattle.dc_replay.proofs.Where.{arrived, arrived_came, IsSettled, moved_arrives, there_front}
+use Rattle.dc_replay.proofs.Where.{arrived, arrived_came, IsSettled, moved_arrives}
 use Rattle.dc_replay.proofs.Placing.{placed, IsPart, placing_gives}
 use Rattle.dc_replay.proofs.Allowed.{Checked, agree_all, placing_allowed, none_or}
-use Rattle.dc_report.proofs.PathOrder.{same_name-flip}
-use Rattle.dc_path.proofs.PathLemmas.{same_name-refl, append-cut, same_path-refl, same_path-true}
+use Rattle.dc_path.proofs.PathLemmas.{same_name-refl, append-cut, same_path-refl, same_path-true, same_name-flip}
 use Rattle.std.proofs.lemmas.Bool.{and_right}
+use Rattle.dc_report.specs.Landings.{is_at}
+use Rattle.dc_attrs.proofs.TreeChanges.{there_front}
 
 same_option : (a b : Option Node) → ((x : Node) → a ≡ Some x → b ≡ Some x) → ((x : Node) → b ≡ Some x → a ≡ Some x) → a ≡ b
 same_option None None f g = refl
 same_option None (Some y) f g = g y refl
 same_option (Some x) b f g = sym (f x refl)
 
-pub leads_true : (o : Option Names) (q : Names) → leads o q ≡ true → o ≡ Some q
+pub leads_true : (o : Option Names) (q : Names) → is_at o q ≡ true → o ≡ Some q
 leads_true None q h = absurd (cc)
 leads_true (Some p) q h = ap (λ (u : Names). Some u) (same_path-true p q h)
 
@@ -42,7 +43,7 @@ pub came_arrives : (P : Plan) (A : Tree) (q : Names) → IsSettled P.carries P.n
 came_arrives P A q s = same_option (arrived P.carries A P.news q) (came P A q)
     (λ x e. let c = arrived_came P.carries A P.news q x s.sound e in
     rw (← c.from, c.goes, same_path-refl q) c.was)
-    (λ x e. let k = cond_some (leads (moved P.carries (source P.news q)) q) (A (source P.news q)) x e in
+    (λ x e. let k = cond_some (is_at (moved P.carries (source P.news q)) q) (A (source P.news q)) x e in
     moved_arrives P.carries P.news A (source P.news q) q x s k.1 (leads_true (moved P.carries (source P.news q)) q k.0))
 
 none_made : (st : List ℕ) (r : Names) (ns : List Place) → ((n : Place) → Has ns n → IsOff st n.new) → list_any (λ n. is_above (st ∷ r) n.new) ns ≡ false
@@ -70,7 +71,7 @@ module _ (st : List ℕ) (P : Plan) (A : Tree) (ok : Checked st P A) where
   end_at q None e = rw e (ap (cond (is_made P P.news q) (Some (Dir default_dir))) (came_arrives P A q ok.settled))
   end_at q (Some r) e =
       let s : q ≡ st ∷ r = append-cut (st ∷ []) q r e in
-      rw (s, none_made st r P.news ok.news_off, and_right (is_fresh P (st ∷ r)) false refl, none_arrives st r P.news ok.news_off, stage_empty st A r ok.settled.valid ok.stage) (sym (none_cond (leads (moved P.carries (st ∷ r)) (st ∷ r))))
+      rw (s, none_made st r P.news ok.news_off, and_right (is_fresh P (st ∷ r)) false refl, none_arrives st r P.news ok.news_off, stage_empty st A r ok.settled.valid ok.stage) (sym (none_cond (is_at (moved P.carries (st ∷ r)) (st ∷ r))))
 
   -- the moves in turn are one renaming
   pub moves_give : after (moves st P) A ≡ shifted P A

@@ -2,23 +2,25 @@
 use Rattle.std.proofs.Common.{ℕ, ◌≡◌, ◌⊎◌, inl, inr, ⊎_elim, List, [], ◌∷◌, ◌++◌, Bool, true, false, cond, not, Option, Some, None, refl, sym, ◌∙◌, ap, subst, arith, append_assoc}
 use Rattle.std.specs.List.{list_any}
 use Rattle.std.proofs.lemmas.List.{append-nil, append_cancel_left}
-use Rattle.dc_attrs.specs.Trees.{Dir, IsTree, Node, Tree}
+use Rattle.dc_attrs.specs.Trees.{Dir, IsTree, Node, Tree, IsThere}
 use Rattle.dc_path.specs.Order.{path_lt}
 use Rattle.dc_path.specs.Paths.{Names, cut, same_path}
-use Rattle.dc_replay.specs.Arrivals.{Arrival, From, Here, arrival, leads, source, source_as}
+use Rattle.dc_replay.specs.Arrivals.{Arrival, From, Here, arrival, source, source_as}
 use Rattle.dc_report.specs.Carrying.{Carried, Carry, Has, Place, Plan, Stays, With, carrier, moved, moved_as, new_gt, then_rest}
 use Rattle.dc_replay.specs.Checking.{Looked, look, others}
-use Rattle.dc_replay.specs.Places.{IsNodeAt}
 use Rattle.dc_replay.proofs.Staging.{IsAscending}
-use Rattle.dc_replay.proofs.Where.{IsPlaceOf, IsDescending, carrier_own, carrier_rest, carrier_front, carrier_sent, Sent, stays_front, there_front, arrival_has, arrival_here, arrival_top}
+use Rattle.dc_replay.proofs.Where.{IsPlaceOf, IsDescending, carrier_own, carrier_front, carrier_sent, Sent, stays_front, arrival_has, arrival_here, arrival_top}
 use Rattle.dc_replay.proofs.Allowed.{Checked}
 use Rattle.dc_replay.proofs.Final.{leads_true}
 use Rattle.dc_replay.proofs.TrueReport.{IsForm}
-use Rattle.dc_path.proofs.PathLemmas.{same_name-refl, cut-append, same_path-refl, same_path-true}
-use Rattle.dc_report.proofs.PathOrder.{cut-longer, path_lt-irrefl}
+use Rattle.dc_path.proofs.PathLemmas.{cut-append, same_path-refl, same_path-true}
+use Rattle.dc_path.proofs.PathOrder.{cut-longer, path_lt-irrefl, prefix_or_less}
 use Rattle.dc_path.proofs.OrderLemmas.{path_lt-trans}
 use Rattle.std.proofs.lemmas.Option.{same_Some}
 use Rattle.dc_report.proofs.HasLemmas.{filter_from, has_filter, filter_sorted, filter_true}
+use Rattle.dc_report.proofs.Carriers.{carrier_rest}
+use Rattle.dc_report.specs.Landings.{is_at}
+use Rattle.dc_attrs.proofs.TreeChanges.{there_front}
 
 -- what is known before one question about q is asked
 pub record Asks (cs : List Carry) (L : List Place) (A : Tree) (q : Names) : Type 0 where
@@ -86,9 +88,9 @@ look_is : (cs : List Carry) (L : List Place) (p q : Names) → p ≡ source L q 
 look_is cs L p q e m = rw (← e, m, same_path-refl q) refl
 
 pub look_leads : (cs : List Carry) (L : List Place) (p q : Names) → look cs L q ≡ Some p → (p ≡ source L q) × (moved cs p ≡ Some q)
-look_leads cs L p q e = by_test (leads (moved cs (source L q)) q) refl e
+look_leads cs L p q e = by_test (is_at (moved cs (source L q)) q) refl e
   where
-    by_test : (b : Bool) → leads (moved cs (source L q)) q ≡ b → cond b (Some (source L q)) None ≡ Some p → (p ≡ source L q) × (moved cs p ≡ Some q)
+    by_test : (b : Bool) → is_at (moved cs (source L q)) q ≡ b → cond b (Some (source L q)) None ≡ Some p → (p ≡ source L q) × (moved cs p ≡ Some q)
     by_test true l k = let s : source L q ≡ p = same_Some (source L q) p k in (sym s, rw (← s) (leads_true (moved cs (source L q)) q l))
     by_test false l k = absurd (cc)
 
@@ -119,15 +121,6 @@ one_item (x ∷ ns) n m d (inl h) (inr k) e =
 one_item (x ∷ ns) n m d (inr h) (inl k) e =
     let no : true ≡ false = sym (d.0 n h) ∙ ap (λ (u : Names). path_lt u x.new) (e ∙ ap (λ (u : Place). u.new) k) ∙ path_lt-irrefl x.new in absurd (cc)
 one_item (x ∷ ns) n m d (inr h) (inr k) e = one_item ns n m d.1 h k e
-
-pub prefix_less : (b : Names) (x : List ℕ) (u : Names) → path_lt b (b ++ x ∷ u) ≡ true
-prefix_less [] x u = refl
-prefix_less (y ∷ b) x u = let ih = prefix_less b x u in let r = same_name-refl y in grind (arith, ih, r)
-
--- a prefix is the path itself or less
-prefix_or_less : (b u q : Names) → q ≡ b ++ u → (u ≡ []) ⊎ (path_lt b q ≡ true)
-prefix_or_less b [] q e = inl refl
-prefix_or_less b (x ∷ u) q e = inr (rw e (prefix_less b x u))
 
 other_true : (m n : Place) → same_path m.new n.new ≡ false → not (same_path m.new n.new) ≡ true
 other_true m n e = rw e refl
@@ -176,7 +169,7 @@ own_at st P A n p x Stays form h s a e f go =
 own_at st P A n p x (With c r) form h s a e f go = own_to st P A n p r x c c.new form h s a e refl f go
 
 -- one look decides whether anything else is moved to a new path
-pub own_by_look : (st : List ℕ) (P : Plan) (A : Tree) (n : Place) → IsForm st P → Has P.news n → Asks P.carries (others n P.news) A n.new → ((p : Names) → look P.carries (others n P.news) n.new ≡ Some p → IsNodeAt A p → p ≡ n.old) → IsOwn P.carries A n
+pub own_by_look : (st : List ℕ) (P : Plan) (A : Tree) (n : Place) → IsForm st P → Has P.news n → Asks P.carries (others n P.news) A n.new → ((p : Names) → look P.carries (others n P.news) n.new ≡ Some p → IsThere A p → p ≡ n.old) → IsOwn P.carries A n
 own_by_look st P A n form h s test p x a m = own_at st P A n p x (carrier P.carries p) form h s a refl m (λ e. test p (look_is P.carries (others n P.news) p n.new e m) (x, a))
 
 all_own : (st : List ℕ) (P : Plan) (A : Tree) (ns : List Place) → IsForm st P → IsTree A → Looked P A → ((n : Place) → Has ns n → Has P.news n) → IsDescending ns → Covers P.news ns → (m : Place) → Has ns m → IsOwn P.carries A m
@@ -199,7 +192,7 @@ pub found : (st : List ℕ) (P : Plan) (A : Tree) (p q : Names) (x : Node) → I
 found st P A p q x form v own a m = look_is P.carries P.news p q (moved_source P.carries P.news A p q x (asks_all st P A q form v own) form.complete a m) m
 
 -- ---- what the tests say, the looks see
-pub checked_looked : (st : List ℕ) (P : Plan) (A : Tree) → IsForm st P → Checked st P A → ((q p : Names) → list_any (λ c. same_path c q) P.places ≡ true → IsNodeAt A p → moved P.carries p ≡ Some q → ⊥) → Looked P A
+pub checked_looked : (st : List ℕ) (P : Plan) (A : Tree) → IsForm st P → Checked st P A → ((q p : Names) → list_any (λ c. same_path c q) P.places ≡ true → IsThere A p → moved P.carries p ≡ Some q → ⊥) → Looked P A
 checked_looked st P A form ok places = record {
   own = λ n p h l t. ok.settled.own n p t.0 h t.1 (look_leads P.carries (others n P.news) p n.new l).1;
   parent = λ n d x h e. ⊎_elim (λ i. inl i)

@@ -16,10 +16,11 @@ use Rattle.dc_report.specs.Moves.{fronts, is_new_parent, parents, placing, label
 use Rattle.dc_report.specs.declared.entries.Move.TheVariants.{Make, Shift}
 use Rattle.dc_replay.proofs.Staging.{after-append, slot, staged}
 use Rattle.dc_replay.proofs.Where.{IsPlaceOf, label_below, arrived, IsDescending}
-use Rattle.dc_report.proofs.PathOrder.{same_name-flip, path_lt-irrefl}
+use Rattle.dc_path.proofs.PathOrder.{path_lt-irrefl, path_lt-asym, above_lt}
 use Rattle.dc_report.proofs.Labels.{one_label_of}
-use Rattle.dc_path.proofs.PathLemmas.{at_end, cut-child, same_path-by_cut, then_cut, same_name-refl, name_decides, append-cut}
-use Rattle.dc_path.proofs.OrderLemmas.{path_lt-trans}
+use Rattle.dc_path.proofs.PathLemmas.{at_end, cut-child, same_path-by_cut, then_cut, same_name-refl, name_decides, append-cut, same_name-flip}
+use Rattle.dc_path.proofs.Fronts.{is_above-nil}
+use Rattle.dc_path.specs.Found.{has_path}
 
 -- ---- the pointwise state of the placing
 abbrev pub has_label : List Place → List ℕ → Bool
@@ -43,11 +44,8 @@ pub place_start : (st : List ℕ) (P : Plan) (A : Tree) → staged st P.carries 
 place_start st P A = fun_ext (λ q. start_at st P A q (cut (st ∷ []) q) refl)
 
 -- ---- the parents that are made
-abbrev any_path : List Names → Names → Bool
-any_path ps q = list_any (λ p. same_path p q) ps
-
 abbrev pub with_dirs : List Names → Tree → Tree
-with_dirs ps X q = cond (any_path ps q) (Some (Dir default_dir)) (X q)
+with_dirs ps X q = cond (has_path ps q) (Some (Dir default_dir)) (X q)
 
 both : (a b : Bool) (x : Option Node) → cond b (Some (Dir default_dir)) (cond a (Some (Dir default_dir)) x) ≡ cond (a || b) (Some (Dir default_dir)) x
 both true true x = refl
@@ -56,18 +54,14 @@ both false b x = refl
 
 pub makes_give : (ps : List Names) (X : Tree) → after (map Make ps) X ≡ with_dirs ps X
 makes_give [] X = refl
-makes_give (p ∷ ps) X = makes_give ps (with_node X p (Dir default_dir)) ∙ fun_ext (λ q. both (same_path p q) (any_path ps q) (X q))
-
-above_nil : (u : Names) → is_above u [] ≡ false
-above_nil [] = refl
-above_nil (x ∷ u) = refl
+makes_give (p ∷ ps) X = makes_give ps (with_node X p (Dir default_dir)) ∙ fun_ext (λ q. both (same_path p q) (has_path ps q) (X q))
 
 abbrev between : Option Names → Names → Bool
 between o rest = at_cut o false (λ u. is_above u rest)
 
 between_nil : (o : Option Names) → between o [] ≡ false
 between_nil None = refl
-between_nil (Some u) = above_nil u
+between_nil (Some u) = is_above-nil u
 
 front_step : (f : Names → Bool) (front : Names) (x : List ℕ) (rest q : Names) (o : Option Names) → cut front q ≡ o → cond (f front) (at_end o || (f q && between (then_cut x o) rest)) (f q && between (then_cut x o) rest) ≡ (f q && between o (x ∷ rest))
 front_step f front x rest q None e = rw (and_right (f q) false refl) (elim (f front) as (λ b. cond b false false ≡ false) [ true ↦ refl | false ↦ refl ])
@@ -80,40 +74,29 @@ front_step f front x rest q (Some (y ∷ u)) e =
     same : (f q && between (cond (same_name x y) (Some u) None) rest) ≡ (f q && (same_name y x && is_above u rest))
     same = rw (same_name-flip y x) (elim (same_name x y) as (λ b. (f q && between (cond b (Some u) None) rest) ≡ (f q && (b && is_above u rest))) [ true ↦ refl | false ↦ refl ])
 
-filter_any : (f : Names → Bool) (p q : Names) (ps : List Names) → any_path (filter f (p ∷ ps)) q ≡ cond (f p) (same_path p q || any_path (filter f ps) q) (any_path (filter f ps) q)
-filter_any f p q ps = elim (f p) as (λ b. any_path (cond b (p ∷ filter f ps) (filter f ps)) q ≡ cond b (same_path p q || any_path (filter f ps) q) (any_path (filter f ps) q)) [ true ↦ refl | false ↦ refl ]
+filter_any : (f : Names → Bool) (p q : Names) (ps : List Names) → has_path (filter f (p ∷ ps)) q ≡ cond (f p) (same_path p q || has_path (filter f ps) q) (has_path (filter f ps) q)
+filter_any f p q ps = elim (f p) as (λ b. has_path (cond b (p ∷ filter f ps) (filter f ps)) q ≡ cond b (same_path p q || has_path (filter f ps) q) (has_path (filter f ps) q)) [ true ↦ refl | false ↦ refl ]
 
-fronts_any : (f : Names → Bool) (front rest q : Names) → any_path (filter f (fronts front rest)) q ≡ (f q && between (cut front q) rest)
+fronts_any : (f : Names → Bool) (front rest q : Names) → has_path (filter f (fronts front rest)) q ≡ (f q && between (cut front q) rest)
 fronts_any f front [] q = rw (between_nil (cut front q), and_right (f q) false refl) refl
 fronts_any f front (x ∷ rest) q =
     filter_any f front q (fronts (front ++ x ∷ []) rest)
     ∙ rw (fronts_any f (front ++ x ∷ []) rest q, cut-child front x q, same_path-by_cut front q) (front_step f front x rest q (cut front q) refl)
 
-pub parents_any : (P : Plan) (ns : List Place) (new q : Names) → any_path (parents P ns new) q ≡ (is_new_parent P ns q && is_above q new)
+pub parents_any : (P : Plan) (ns : List Place) (new q : Names) → has_path (parents P ns new) q ≡ (is_new_parent P ns q && is_above q new)
 parents_any P ns new q = fronts_any (is_new_parent P ns) [] new q
 
 -- ---- order: nothing is made at or under the greatest new path
-pub above_lt : (a q t r : Names) → is_above q t ≡ true → cut a q ≡ Some r → path_lt a t ≡ true
-above_lt [] [] [] r h e = absurd (cc)
-above_lt [] (x ∷ q) [] r h e = absurd (cc)
-above_lt [] q (y ∷ t) r h e = refl
-above_lt (x ∷ a) [] t r h e = absurd (cc)
-above_lt (x ∷ a) (y ∷ q) [] r h e = absurd (cc)
-above_lt (x ∷ a) (y ∷ q) (z ∷ t) r h e = let ih = above_lt a q t r in let f = (name_decides x y).0 in let g = (name_decides y z).0 in let i = same_name-refl x in grind (arith, ih, f, g, i)
-
 pub none_above : (a q r : Names) (ms : List Place) → cut a q ≡ Some r → ((m : Place) → Has ms m → path_lt a m.new ≡ true → ⊥) → list_any (λ m. is_above q m.new) ms ≡ false
 none_above a q r [] e h = refl
 none_above a q r (m ∷ ms) e h = rw (false_from_ne_true (is_above q m.new) (λ k. h m (inl refl) (above_lt a q m.new r k e)), none_above a q r ms e (λ k i. h k (inr i))) refl
-
-pub not_less : (a b : Names) → path_lt a b ≡ true → path_lt b a ≡ true → ⊥
-not_less a b h k = let e : true ≡ false = sym (path_lt-trans a b a h k) ∙ path_lt-irrefl a in cc
 
 pub not_made : (P : Plan) (n : Place) (ns : List Place) (q r : Names) → IsDescending (n ∷ ns) → cut n.new q ≡ Some r → is_made P (n ∷ ns) q ≡ false
 not_made P n ns q r d e = rw (none_above n.new q r (n ∷ ns) e no) (and_right (is_fresh P q) false refl)
   where
     no : (m : Place) → Has (n ∷ ns) m → path_lt n.new m.new ≡ true → ⊥
     no m (inl i) l = let k : true ≡ false = sym l ∙ ap (λ (o : Place). path_lt n.new o.new) i ∙ path_lt-irrefl n.new in cc
-    no m (inr i) l = not_less n.new m.new l (d.0 m i)
+    no m (inr i) l = path_lt-asym n.new m.new l (d.0 m i)
 
 -- ---- what is known of the new paths that are placed
 pub record IsPart (st : List ℕ) (P : Plan) (ns : List Place) : Type 0 where

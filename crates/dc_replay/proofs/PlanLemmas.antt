@@ -14,7 +14,7 @@ use Rattle.dc_report.proofs.Sorting.{IsSorted, sort_has, has_sort, sort_sorted, 
 use Rattle.dc_replay.proofs.Where.{IsPlaceOf, place_carry}
 use Rattle.dc_replay.proofs.Allowed.{Checked}
 use Rattle.dc_replay.proofs.TrueReport.{IsForm}
-use Rattle.dc_report.proofs.PathOrder.{path_lt-connex}
+use Rattle.dc_path.proofs.PathOrder.{path_lt-connex}
 use Rattle.dc_path.proofs.OrderLemmas.{path_lt-trans}
 use Rattle.dc_path.proofs.PathLemmas.{same_path-true, same_ends, nil_is_no_end}
 use Rattle.std.proofs.lemmas.Option.{same_Some}

@@ -1,11 +1,10 @@
 -- A tree does not refuse a move that finds what it needs.
 use Rattle.std.proofs.Common.{ℕ, ◌≡◌, List, [], ◌∷◌, ◌++◌, Some, None, refl, ◌∙◌, ap}
 use Rattle.dc_attrs.specs.Refusals.{refused_at, refused_in, refused_root}
-use Rattle.dc_attrs.specs.Trees.{Dir, File, IsTree, Node, Tree, seen, seen_node}
+use Rattle.dc_attrs.specs.Trees.{Dir, File, IsTree, Node, Tree, seen, seen_node, IsFree}
 use Rattle.dc_attrs.proofs.TreeLemmas.{seen_from-there}
 use Rattle.dc_path.specs.Paths.{Names, cut, front_of}
 use Rattle.dc_replay.specs.Steps.{AreAllowed, IsAllowed, step}
-use Rattle.dc_replay.specs.Places.{IsFree}
 use Rattle.dc_replay.specs.Refused.{refused}
 use Rattle.dc_replay.specs.Replaying.{NoneRefused}
 use Rattle.dc_report.specs.declared.entries.Move.{Move}

@@ -1,7 +1,7 @@
 -- The laws of replaying.
 use Rattle.std.proofs.Common.{ℕ, ◌≡◌, inl, ⊎_elim, List, [], ◌∷◌, true, false, None, length, map, refl, sym, ◌∙◌, ap, subst, arith}
 use Rattle.std.specs.Prelude.{is_some}
-use Rattle.dc_attrs.specs.Trees.{IsDirAt, IsTree, Tree, at}
+use Rattle.dc_attrs.specs.Trees.{IsDirAt, IsTree, Tree, at, IsThere}
 use Rattle.dc_path.specs.Paths.{Names}
 use Rattle.dc_report.specs.Carrying.{Carry, Has, Place, carries_of, is_fresh, is_made, items_of, moved, new_gt, plan, sort_by}
 use Rattle.dc_replay.specs.Arrivals.{shifted}
@@ -9,7 +9,6 @@ use Rattle.dc_replay.specs.Checking.{IsOff, IsStageFree, is_to_be_made}
 use Rattle.dc_report.specs.Apart.{IsReport}
 use Rattle.dc_replay.specs.Steps.{AreAllowed, after, graft}
 use Rattle.dc_report.specs.Moves.{below, moves_for, moves_of}
-use Rattle.dc_replay.specs.Places.{IsNodeAt}
 use Rattle.dc_replay.specs.Replaying.{IsReplayed, IsShifted, NoneRefused, ReplayingHolds, Replays, TestsDecide, TrueReportsPass}
 use Rattle.dc_replay.proofs.TrueEntries.{true_makes_check_pass}
 use Rattle.dc_replay.specs.Tests.{first_false}
@@ -18,12 +17,13 @@ use Rattle.dc_report.specs.declared.entries.Entry.TheVariants.{Deleted, Renamed}
 use Rattle.dc_report.specs.declared.entries.Move.{Move}
 use Rattle.dc_replay.proofs.PlanLemmas.{carry_from}
 use Rattle.dc_replay.proofs.Testing.{entry_none, unless_none}
-use Rattle.dc_replay.proofs.Base.{valid_at, graft_same}
+use Rattle.dc_replay.proofs.Base.{graft_same}
 use Rattle.dc_replay.proofs.Checking.{passes_from, passes_to}
 use Rattle.dc_replay.proofs.Replaying.{nothing_shifted, replaying, shifted_is, files_stay}
 use Rattle.std.proofs.lemmas.Bool.{and_right}
 use Rattle.std.proofs.lemmas.Option.{same_Some}
 use Rattle.dc_attrs.proofs.TreeLemmas.{front_is_dir, there_is}
+use Rattle.dc_attrs.proofs.TreeChanges.{valid_at}
 
 -- ---- where nothing is deleted or renamed
 no_moves : (st : List ℕ) (d : Names) (R : List Entry) → carries_of R ≡ [] → moves_of st d R ≡ []
@@ -58,7 +58,7 @@ nothing_holds st d R T v e = record {
 }
 
 -- ---- where something is carried, the base is a directory
-base_dir : (T : Tree) (d : Names) (p : Names) (st : List ℕ) → IsTree T → IsOff st p → IsNodeAt (at T d) p → IsDirAt T d
+base_dir : (T : Tree) (d : Names) (p : Names) (st : List ℕ) → IsTree T → IsOff st p → IsThere (at T d) p → IsDirAt T d
 base_dir T d p st v off t = front_is_dir T d off.first off.rest t.0 (T d) v (ap (at T d) (sym off.path) ∙ t.1) refl
 
 carried_there : (st : List ℕ) (d : Names) (R : List Entry) (T : Tree) (c : Carry) → IsTree T → IsStageFree st R (at T d) → first_false R (at T d) ≡ None → Has (carries_of R) c → IsDirAt T d

@@ -5,7 +5,7 @@ use Rattle.dc_attrs.specs.Attributes.{default_dir}
 use Rattle.dc_attrs.specs.Trees.{Dir, IsDirAt, IsTree, Node, Tree, at}
 use Rattle.dc_path.specs.Paths.{Names}
 use Rattle.dc_report.specs.Carrying.{Carry, Place, Plan, carries_of, is_made, items_of, moved, new_gt, plan, sort_by, is_fresh}
-use Rattle.dc_replay.specs.Arrivals.{came, leads, shifted, source}
+use Rattle.dc_replay.specs.Arrivals.{came, shifted, source}
 use Rattle.dc_report.specs.Apart.{IsReport}
 use Rattle.dc_replay.specs.Checking.{Passes, is_to_be_made}
 use Rattle.dc_replay.specs.Steps.{AreAllowed, after, graft}
@@ -19,11 +19,13 @@ use Rattle.dc_replay.proofs.Allowed.{Checked}
 use Rattle.dc_replay.proofs.Final.{came_arrives, moves_give, moves_allowed, leads_true, cond_some}
 use Rattle.dc_replay.proofs.Tracking.{valid_after, carries, allowed_take}
 use Rattle.dc_replay.proofs.Refusing.{none_refused}
-use Rattle.dc_replay.proofs.Base.{graft_same, after_below, allowed_below, valid_at}
+use Rattle.dc_replay.proofs.Base.{graft_same, after_below, allowed_below}
 use Rattle.dc_replay.proofs.PlanLemmas.{checked}
 use Rattle.dc_path.proofs.PathLemmas.{same_path-refl}
 use Rattle.std.proofs.lemmas.Bool.{and_right}
 use Rattle.std.proofs.lemmas.List.{length-map}
+use Rattle.dc_report.specs.Landings.{is_at}
+use Rattle.dc_attrs.proofs.TreeChanges.{valid_at}
 
 -- ---- what a report makes of a tree, said of each path
 made_no : (P : Plan) (A : Tree) (q : Names) (x : Node) (b : Bool) → (b ≡ true → ⊥) → came P A q ≡ Some x → cond b (Some (Dir default_dir)) (came P A q) ≡ Some x
@@ -32,7 +34,7 @@ made_no P A q x false un e = e
 
 shifted_only : (P : Plan) (A : Tree) (q : Names) (x : Node) (b : Bool) → is_made P P.news q ≡ b → cond b (Some (Dir default_dir)) (came P A q) ≡ Some x → ((p : Names) × (A p ≡ Some x) × (moved P.carries p ≡ Some q)) ⊎ (is_made P P.news q ≡ true)
 shifted_only P A q x true m e = inr m
-shifted_only P A q x false m e = let k = cond_some (leads (moved P.carries (source P.news q)) q) (A (source P.news q)) x e in inl (source P.news q, k.1, leads_true (moved P.carries (source P.news q)) q k.0)
+shifted_only P A q x false m e = let k = cond_some (is_at (moved P.carries (source P.news q)) q) (A (source P.news q)) x e in inl (source P.news q, k.1, leads_true (moved P.carries (source P.news q)) q k.0)
 
 pub shifted_is : (st : List ℕ) (R : List Entry) (A : Tree) → IsReport R → IsTree A → Passes st R A → IsShifted R A (shifted (plan R) A)
 shifted_is st R A is v ok =

@@ -2,20 +2,20 @@
 use Rattle.std.proofs.Common.{◌≡◌, inl, inr, ℕ, ◌≤◌, List, [], ◌∷◌, ◌++◌, Bool, true, false, cond, Option, Some, None, length, refl, sym, ◌∙◌, ap, subst, arith}
 use Rattle.std.proofs.Math.Path.{fun_ext}
 use Rattle.dc_attrs.specs.Attributes.{default_dir}
-use Rattle.dc_attrs.specs.Trees.{Dir, Node, Tree, moved as tree_moved, with_node}
+use Rattle.dc_attrs.specs.Trees.{Dir, Node, Tree, moved as tree_moved, with_node, IsThere}
 use Rattle.dc_path.specs.Names.{same_name}
 use Rattle.dc_path.specs.Paths.{Names, at_cut, cut}
 use Rattle.dc_report.specs.Carrying.{Carried, Carry, Has, Stays, With, carrier, old_lt, or_carried}
 use Rattle.dc_replay.specs.Checking.{IsOff}
 use Rattle.dc_replay.specs.Steps.{AreAllowed, IsAllowed, after, step}
 use Rattle.dc_report.specs.Moves.{staging, label_of}
-use Rattle.dc_replay.specs.Places.{IsNodeAt}
 use Rattle.dc_report.specs.declared.entries.Move.{Move}
 use Rattle.dc_report.specs.declared.entries.Move.TheVariants.{Make, Shift}
 use Rattle.dc_report.proofs.Sorting.{IsSorted}
-use Rattle.dc_report.proofs.PathOrder.{same_name-flip, cut-less}
+use Rattle.dc_path.proofs.PathOrder.{cut-less}
 use Rattle.dc_report.proofs.Labels.{other_labels}
-use Rattle.dc_path.proofs.PathLemmas.{same_name-refl, name_decides}
+use Rattle.dc_path.proofs.PathLemmas.{same_name-refl, name_decides, same_name-flip, at_cond}
+use Rattle.dc_report.proofs.Carriers.{carrier_stays}
 
 -- ---- one list of moves after the other
 pub after-append : (ms ns : List Move) (t : Tree) → after (ms ++ ns) t ≡ after ns (after ms t)
@@ -72,10 +72,6 @@ away_step : (cs : List Carry) (A : Tree) (c : Carry) (q : Names) (o : Option Nam
 away_step cs A c q None e = rw (e, or_stays) refl
 away_step cs A c q (Some r) e = rw (e, kept_none) refl
 
-pub at_cond : {X : Type 0} (b : Bool) (r : Names) (u : X) (f : Names → X) → at_cut (cond b (Some r) None) u f ≡ cond b (f r) u
-at_cond true r u f = refl
-at_cond false r u f = refl
-
 step_at : (st : List ℕ) (cs : List Carry) (A : Tree) (c : Carry) (y : List ℕ) (d : Names) (z : List ℕ) (q : Names) (b : Bool) → c.old ≡ y ∷ d → same_name st y ≡ false → same_name st z ≡ b → tree_moved (staged st cs A) c.old (st ∷ label_of (length cs) ∷ []) (z ∷ q) ≡ staged st (c ∷ cs) A (z ∷ q)
 step_at st cs A c y d z q false e n b = rw b (away_step cs A c (z ∷ q) (cut c.old (z ∷ q)) refl)
 step_at st cs A c y d z [] true e n b =
@@ -106,10 +102,6 @@ staging_gives st (c ∷ cs) A off =
 abbrev pub IsAscending : List Carry → Type 0
 IsAscending cs = IsSorted old_lt cs
 
-pub carrier_stays : (cs : List Carry) (p : Names) → ((d : Carry) → Has cs d → cut d.old p ≡ None) → carrier cs p ≡ Stays
-carrier_stays [] p h = refl
-carrier_stays (c ∷ cs) p h = rw (carrier_stays cs p (λ d k. h d (inr k)), h c (inl refl)) refl
-
 pub slot_past : (cs : List Carry) (A : Tree) (k : ℕ) (r : Names) → length cs ≤ k → slot cs A (label_of k) r ≡ None
 slot_past [] A k r h = refl
 slot_past (c ∷ cs) A k r h =
@@ -122,7 +114,7 @@ staged_off st cs A p off = rw (off.path, off.other) refl
 pub stage_dir : (st : List ℕ) (cs : List Carry) (A : Tree) → staged st cs A (st ∷ []) ≡ Some (Dir default_dir)
 stage_dir st cs A = rw (same_name-refl st) refl
 
-shift_allowed : (st : List ℕ) (cs : List Carry) (A : Tree) (c : Carry) → IsOff st c.old → IsNodeAt A c.old → carrier cs c.old ≡ Stays → IsAllowed (staged st cs A) (Shift c.old (st ∷ label_of (length cs) ∷ []))
+shift_allowed : (st : List ℕ) (cs : List Carry) (A : Tree) (c : Carry) → IsOff st c.old → IsThere A c.old → carrier cs c.old ≡ Stays → IsAllowed (staged st cs A) (Shift c.old (st ∷ label_of (length cs) ∷ []))
 shift_allowed st cs A c off there stays = (
   (there.0, staged_off st cs A c.old off ∙ rw stays there.1),
   record {
@@ -135,7 +127,7 @@ shift_allowed st cs A c off there stays = (
   (let f : same_name off.first st ≡ false = same_name-flip off.first st ∙ off.other in rw (off.path, f) refl),
 )
 
-pub staging_allowed : (st : List ℕ) (cs : List Carry) (A : Tree) → ((c : Carry) → Has cs c → IsOff st c.old) → ((c : Carry) → Has cs c → IsNodeAt A c.old) → IsAscending cs → AreAllowed (staged st [] A) (staging st cs)
+pub staging_allowed : (st : List ℕ) (cs : List Carry) (A : Tree) → ((c : Carry) → Has cs c → IsOff st c.old) → ((c : Carry) → Has cs c → IsThere A c.old) → IsAscending cs → AreAllowed (staged st [] A) (staging st cs)
 staging_allowed st [] A off there asc = tt
 staging_allowed st (c ∷ cs) A off there asc =
     allowed-append (staging st cs) (Shift c.old (st ∷ label_of (length cs) ∷ []) ∷ []) (staged st [] A)

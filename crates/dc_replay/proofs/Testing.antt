@@ -4,17 +4,15 @@ use Rattle.std.specs.Prelude.{is_some}
 use Rattle.std.specs.List.{list_any}
 use Rattle.std.proofs.lemmas.Bool.{and_parts, and_from, or_cases, and_right, or_right}
 use Rattle.dc_attrs.specs.Attributes.{Attributes}
-use Rattle.dc_attrs.specs.Trees.{Dir, File, IsDirAt, Node, Tree}
+use Rattle.dc_attrs.specs.Trees.{Dir, File, IsDirAt, Node, Tree, is_dir_node, IsThere}
 use Rattle.dc_path.specs.Paths.{Names, same_path, is_above, front_of, is_root}
 use Rattle.dc_report.specs.Carrying.{Has, Place, Plan, is_fresh, is_made}
 use Rattle.dc_replay.specs.Checking.{Looked, look, others}
 use Rattle.dc_report.specs.Moves.{parents}
-use Rattle.dc_replay.specs.Places.{IsNodeAt}
-use Rattle.dc_replay.specs.Tests.{all_tests, first_some, has_landing, is_dir_node, is_other, made_list, node_at, test_entry, test_free, test_new, unless}
+use Rattle.dc_replay.specs.Tests.{all_tests, first_some, has_landing, is_other, made_list, node_at, test_entry, test_free, test_new, unless}
 use Rattle.dc_report.specs.declared.entries.Entry.{Entry}
 use Rattle.dc_replay.proofs.Placing.{parents_any}
-use Rattle.dc_path.proofs.PathLemmas.{same_path-true, same_path-refl, front_of-append}
-use Rattle.dc_replay.proofs.Allowed.{Ended}
+use Rattle.dc_path.proofs.PathLemmas.{same_path-true, same_path-refl, front_of-append, Ended, root_is}
 use Rattle.dc_report.proofs.HasLemmas.{any_has, has_any, has_left, has_right, has_either, has_map, map_has, has_reverse, reverse_has}
 use Rattle.std.proofs.lemmas.List.Folds.{list_any-append}
 
@@ -71,11 +69,7 @@ look_dir : (A : Tree) (o : Option Names) → is_dir_node (node_at A o) ≡ true 
 look_dir A None e = absurd (cc)
 look_dir A (Some p) e = (p, dir_there (A p) e, refl)
 
-root_is : (d : Names) → is_root d ≡ true → d ≡ []
-root_is [] e = refl
-root_is (x ∷ d) e = absurd (cc)
-
-other_none : (A : Tree) (old p : Names) (o : Option Names) → not (is_other A old o) ≡ true → o ≡ Some p → IsNodeAt A p → p ≡ old
+other_none : (A : Tree) (old p : Names) (o : Option Names) → not (is_other A old o) ≡ true → o ≡ Some p → IsThere A p → p ≡ old
 other_none A old p o e l t = same (same_path p old) refl
   where
     f : not (is_some (A p) && not (same_path p old)) ≡ true
@@ -85,7 +79,7 @@ other_none A old p o e l t = same (same_path p old) refl
     same true k = same_path-true p old k
     same false k = let g : false ≡ true = rw (t.1, k) at f in absurd (cc)
 
-free_none : (A : Tree) (p : Names) (o : Option Names) → not (is_some (node_at A o)) ≡ true → o ≡ Some p → IsNodeAt A p → ⊥
+free_none : (A : Tree) (p : Names) (o : Option Names) → not (is_some (node_at A o)) ≡ true → o ≡ Some p → IsThere A p → ⊥
 free_none A p o e l t = let f : not (is_some (A p)) ≡ true = rw l at e in let g : false ≡ true = rw t.1 at f in cc
 
 module _ (P : Plan) (A : Tree) (R : List Entry) (pass : first_some (all_tests R P A) ≡ None) where
@@ -125,7 +119,7 @@ module _ (P : Plan) (A : Tree) (R : List Entry) (pass : first_some (all_tests R 
   }
 
 -- ---- and the other way round
-other_false : (A : Tree) (old : Names) (o : Option Names) → ((p : Names) → o ≡ Some p → IsNodeAt A p → p ≡ old) → is_other A old o ≡ false
+other_false : (A : Tree) (old : Names) (o : Option Names) → ((p : Names) → o ≡ Some p → IsThere A p → p ≡ old) → is_other A old o ≡ false
 other_false A old None h = refl
 other_false A old (Some p) h = at_node (A p) refl
   where
@@ -133,7 +127,7 @@ other_false A old (Some p) h = at_node (A p) refl
     at_node None e = refl
     at_node (Some x) e = let k : p ≡ old = h p refl (x, e) in rw (← k, same_path-refl p) refl
 
-free_false : (A : Tree) (o : Option Names) → ((p : Names) → o ≡ Some p → IsNodeAt A p → ⊥) → is_some (node_at A o) ≡ false
+free_false : (A : Tree) (o : Option Names) → ((p : Names) → o ≡ Some p → IsThere A p → ⊥) → is_some (node_at A o) ≡ false
 free_false A None h = refl
 free_false A (Some p) h = at_node (A p) refl
   where
@@ -157,7 +151,7 @@ looked_tests P A R entries last looked = none_first (all_tests R P A) each
         (ap not (other_false A n.old (look P.carries (others n P.news) n.new) (λ p. looked.own n p h)))
         (subst (λ (u : Names). has_landing P A u ≡ true) (sym (ap front_of l.path ∙ front_of-append l.front l.name)) (landing_true P A l.front (looked.parent n l.front l.name h l.path))))
 
-    free_ok : (q : Names) → ((p : Names) → look P.carries P.news q ≡ Some p → IsNodeAt A p → ⊥) → test_free P A q ≡ None
+    free_ok : (q : Names) → ((p : Names) → look P.carries P.news q ≡ Some p → IsThere A p → ⊥) → test_free P A q ≡ None
     free_ok q h = none_unless (not (is_some (node_at A (look P.carries P.news q)))) q (ap not (free_false A (look P.carries P.news q) h))
 
     last_ok : (o : Option Names) → Has (map (test_free P A) P.places) o ⊎ Has (map (test_free P A) (made_list P P.news)) o → o ≡ None

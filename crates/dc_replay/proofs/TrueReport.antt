@@ -4,22 +4,23 @@ use Rattle.std.specs.List.{list_any}
 use Rattle.std.proofs.lemmas.List.{append-nil}
 use Rattle.std.proofs.lemmas.Bool.{and_parts, and_right}
 use Rattle.dc_attrs.specs.Attributes.{Attributes}
-use Rattle.dc_attrs.specs.Trees.{Dir, File, IsDirAt, IsTree, Node, Tree}
+use Rattle.dc_attrs.specs.Trees.{Dir, File, IsDirAt, IsTree, Node, Tree, is_dir, IsThere}
 use Rattle.dc_path.specs.Paths.{Names, same_path, is_above}
 use Rattle.dc_report.specs.Carrying.{Carried, Carry, Has, Place, Plan, Stays, With, carrier, is_fresh, is_made, moved, moved_as, then_rest}
-use Rattle.dc_replay.specs.Arrivals.{came, leads, source}
+use Rattle.dc_replay.specs.Arrivals.{came, source}
 use Rattle.dc_replay.specs.Checking.{IsOff}
-use Rattle.dc_replay.specs.Places.{IsNodeAt}
-use Rattle.dc_replay.specs.Truth.{is_dir}
 use Rattle.dc_replay.proofs.Staging.{IsAscending}
-use Rattle.dc_replay.proofs.Where.{IsPlaceOf, IsDescending, IsSettled, carrier_own, carrier_rest, carrier_front, carrier_sent, stays_front, moved_arrives, there_front, place_carry}
-use Rattle.dc_report.proofs.Fronts.{above_append}
+use Rattle.dc_replay.proofs.Where.{IsPlaceOf, IsDescending, IsSettled, carrier_own, carrier_front, carrier_sent, stays_front, moved_arrives, place_carry}
+use Rattle.dc_path.proofs.Fronts.{above_append}
 use Rattle.dc_report.proofs.WalkLemmas.{fresh_snoc}
-use Rattle.dc_replay.proofs.Allowed.{Checked, verdict_true, ended_cons}
+use Rattle.dc_replay.proofs.Allowed.{Checked, verdict_true}
 use Rattle.dc_replay.proofs.Final.{came_arrives, leads_true, cond_some}
-use Rattle.dc_path.proofs.PathLemmas.{same_path-refl, same_ends, by_last_name}
+use Rattle.dc_path.proofs.PathLemmas.{same_path-refl, same_ends, by_last_name, ended_cons}
 use Rattle.std.proofs.lemmas.Option.{same_Some}
 use Rattle.dc_report.proofs.HasLemmas.{has_any}
+use Rattle.dc_report.proofs.Carriers.{carrier_rest}
+use Rattle.dc_report.specs.Landings.{is_at}
+use Rattle.dc_attrs.proofs.TreeChanges.{there_front}
 
 -- what the form of a report and the first test give
 pub record IsForm (st : List ℕ) (P : Plan) : Type 0 where
@@ -33,12 +34,12 @@ pub record IsForm (st : List ℕ) (P : Plan) : Type 0 where
 
 -- a report that is true, by what it carries
 pub record IsTrueReport (P : Plan) (O N : Tree) : Type 0 where
-  pub olds : (c : Carry) → Has P.carries c → IsNodeAt O c.old
-  pub apart : (p q r : Names) → IsNodeAt O p → IsNodeAt O q → moved P.carries p ≡ Some r → moved P.carries q ≡ Some r → p ≡ q
+  pub olds : (c : Carry) → Has P.carries c → IsThere O c.old
+  pub apart : (p q r : Names) → IsThere O p → IsThere O q → moved P.carries p ≡ Some r → moved P.carries q ≡ Some r → p ≡ q
   pub leads : (p q : Names) (x : Node) → O p ≡ Some x → moved P.carries p ≡ Some q → (y : Node) × (N q ≡ Some y) × (is_dir x ≡ is_dir y)
   pub created : (d : Names) (y : List ℕ) → list_any (λ c. same_path c (d ++ y ∷ [])) P.places ≡ true → (p : Names) × IsDirAt O p × (moved P.carries p ≡ Some d)
-  pub places : (q p : Names) → list_any (λ c. same_path c q) P.places ≡ true → IsNodeAt O p → moved P.carries p ≡ Some q → ⊥
-  pub fresh : (q : Names) → IsNodeAt N q → ((p : Names) → IsNodeAt O p → moved P.carries p ≡ Some q → ⊥) → is_fresh P q ≡ true
+  pub places : (q p : Names) → list_any (λ c. same_path c q) P.places ≡ true → IsThere O p → moved P.carries p ≡ Some q → ⊥
+  pub fresh : (q : Names) → IsThere N q → ((p : Names) → IsThere O p → moved P.carries p ≡ Some q → ⊥) → is_fresh P q ≡ true
 
 -- what leads to a child leads to its parent, unless a new path is the child
 pub record LeadsUp (cs : List Carry) (p q : Names) : Type 0 where
@@ -82,13 +83,13 @@ root_fresh P h = rw h (and_right (not (list_any (λ n. same_path n.new []) P.new
 
 module _ (st : List ℕ) (P : Plan) (O N : Tree) (form : IsForm st P) (is_true : IsTrueReport P O N) where
   -- nothing is moved to what is fresh
-  fresh_up : (d : Names) (y : List ℕ) (p : Names) → IsTree O → IsNodeAt O p → moved P.carries p ≡ Some (d ++ y ∷ []) → list_any (λ n. same_path n.new (d ++ y ∷ [])) P.news ≡ false → ((u : Names) → IsNodeAt O u → moved P.carries u ≡ Some d → ⊥) → ⊥
+  fresh_up : (d : Names) (y : List ℕ) (p : Names) → IsTree O → IsThere O p → moved P.carries p ≡ Some (d ++ y ∷ []) → list_any (λ n. same_path n.new (d ++ y ∷ [])) P.news ≡ false → ((u : Names) → IsThere O u → moved P.carries u ≡ Some d → ⊥) → ⊥
   fresh_up d y p v t m no_new ih =
       let g = moved_up P O p d y (λ n is e. let k : true ≡ false = sym (any_new P.news n (d ++ y ∷ []) (form.complete n is) e) ∙ no_new in cc) m in
       ih g.parent (there_front O g.parent (g.name ∷ []) t.0 v (ap O (sym g.path) ∙ t.1)) g.goes
 
-  fresh_unmoved : IsTree O → (q : Names) → is_fresh P q ≡ true → (p : Names) → IsNodeAt O p → moved P.carries p ≡ Some q → ⊥
-  fresh_unmoved v = by_last_name (λ q. is_fresh P q ≡ true → (p : Names) → IsNodeAt O p → moved P.carries p ≡ Some q → ⊥)
+  fresh_unmoved : IsTree O → (q : Names) → is_fresh P q ≡ true → (p : Names) → IsThere O p → moved P.carries p ≡ Some q → ⊥
+  fresh_unmoved v = by_last_name (λ q. is_fresh P q ≡ true → (p : Names) → IsThere O p → moved P.carries p ≡ Some q → ⊥)
       (λ f p t m. let e : true ≡ false = sym f ∙ root_fresh P form.no_root in cc)
       (λ d y ih f p t m. ⊎_elim (λ i. is_true.places (d ++ y ∷ []) p i t m) (λ i. fresh_up d y p v t m i.0 (ih i.1))
       (verdict_true (list_any (λ c. same_path c (d ++ y ∷ [])) P.places) (list_any (λ n. same_path n.new (d ++ y ∷ [])) P.news) (is_fresh P d) (sym (fresh_snoc P d y) ∙ f)))
@@ -114,7 +115,7 @@ module _ (st : List ℕ) (P : Plan) (O N : Tree) (form : IsForm st P) (is_true :
       let a : Some t.0 ≡ None = sym (sym (came_arrives P O d (settled v)) ∙ moved_arrives P.carries P.news O p d t.0 (settled v) t.1 m) ∙ c in cc) in
       rw (f, has_any (λ m. is_above d m.new) P.news n h (above_append d y [] n.new e)) refl)
   parent_at v n d y (Some x) h e i c = inl (
-      let k = cond_some (leads (moved P.carries (source P.news d)) d) (O (source P.news d)) x c in
+      let k = cond_some (is_at (moved P.carries (source P.news d)) d) (O (source P.news d)) x c in
       let m = leads_true (moved P.carries (source P.news d)) d k.0 in
       let l = is_true.leads (source P.news d) d x k.1 m in
       let same : l.0 ≡ Dir i.0 = same_Some l.0 (Dir i.0) (sym l.1 ∙ i.1) in
@@ -122,7 +123,7 @@ module _ (st : List ℕ) (P : Plan) (O N : Tree) (form : IsForm st P) (is_true :
       (source P.news d, (b.0, k.1 ∙ ap (λ (u : Node). Some u) b.1), m))
 
   -- each new path stands in the later tree
-  pub new_there : (n : Place) → Has P.news n → IsNodeAt N n.new
+  pub new_there : (n : Place) → Has P.news n → IsThere N n.new
   new_there n h =
       let k = carrier_own P.carries n form.ascending (form.sound n h) in
       let c = place_carry P.carries n (form.sound n h) in

@@ -1,33 +1,22 @@
 -- Where a report leads a path.
 use Rattle.std.proofs.Common.{ℕ, ◌≡◌, ◌⊎◌, inl, inr, ⊎_elim, ◌<◌, List, [], ◌∷◌, ◌++◌, true, false, Option, Some, None, length, refl, sym, ◌∙◌, ap, arith, append_assoc}
 use Rattle.std.proofs.lemmas.List.{append-nil, append_cancel_left}
-use Rattle.dc_attrs.specs.Trees.{Dir, IsTree, Node, Tree}
+use Rattle.dc_attrs.specs.Trees.{IsTree, Node, Tree}
 use Rattle.dc_path.specs.Names.{same_name}
 use Rattle.dc_path.specs.Order.{path_lt}
 use Rattle.dc_path.specs.Paths.{Names, at_cut, cut}
 use Rattle.dc_replay.specs.Arrivals.{Arrival, From, Here, arrival, source}
 use Rattle.dc_report.specs.Carrying.{Carried, Carry, Has, Place, Stays, With, carried_by, carrier, moved, moved_as, new_gt, or_carried, then_rest}
-use Rattle.dc_replay.specs.Places.{IsNodeAt}
 use Rattle.dc_report.specs.Moves.{label_of}
-use Rattle.dc_replay.proofs.Staging.{kept, away, slot, IsAscending, carrier_stays}
+use Rattle.dc_replay.proofs.Staging.{kept, away, slot, IsAscending}
 use Rattle.dc_report.proofs.Sorting.{IsSorted}
 use Rattle.dc_report.proofs.Labels.{other_labels, same_label}
-use Rattle.dc_path.proofs.PathLemmas.{same_name-refl, cut-append, append-cut}
-use Rattle.dc_report.proofs.PathOrder.{cut-less, cut-longer}
-use Rattle.dc_attrs.proofs.TreeLemmas.{front_is_dir}
+use Rattle.dc_path.proofs.PathLemmas.{same_name-refl, cut-append, append-cut, cut_front}
+use Rattle.dc_path.proofs.PathOrder.{cut-less, cut-longer}
+use Rattle.dc_report.proofs.Carriers.{carrier_stays, carrier_rest}
+use Rattle.dc_attrs.proofs.TreeChanges.{there_front}
 
 -- ---- paths of a valid tree
-pub there_front : (t : Tree) (p s : Names) (x : Node) → IsTree t → t (p ++ s) ≡ Some x → IsNodeAt t p
-there_front t p [] x v e = (x, rw append-nil at e)
-there_front t p (y ∷ s) x v e = let d = front_is_dir t p y s x (t p) v e refl in (Dir d.0, d.1)
-
-cut_front_at : (d p s : Names) (o : Option Names) → cut d p ≡ o → cut d (p ++ s) ≡ None → o ≡ None
-cut_front_at d p s None e h = refl
-cut_front_at d p s (Some r) e h = let k : Some (r ++ s) ≡ None = sym (cut-append d (r ++ s)) ∙ ap (cut d) (sym (append_assoc d r s) ∙ ap (λ (q : Names). q ++ s) (sym (append-cut d p r e))) ∙ h in cc
-
-pub cut_front : (d p s : Names) → cut d (p ++ s) ≡ None → cut d p ≡ None
-cut_front d p s h = cut_front_at d p s (cut d p) refl h
-
 -- ---- what carries a path
 pub by_some : (c d : Carry) (o : Option Names) (r : Names) → carried_by d o ≡ With c r → (c ≡ d) × (o ≡ Some r)
 by_some c d None r e = absurd (cc)
@@ -44,13 +33,6 @@ or_with (With d s) l c r e = inl e
 pub or_none : (k l : Carried) → or_carried k l ≡ Stays → (k ≡ Stays) × (l ≡ Stays)
 or_none Stays l e = (refl, e)
 or_none (With d s) l e = absurd (cc)
-
-pub carrier_rest : (cs : List Carry) (p : Names) (c : Carry) (r : Names) → carrier cs p ≡ With c r → p ≡ c.old ++ r
-carrier_rest [] p c r e = absurd (cc)
-carrier_rest (d ∷ cs) p c r e =
-    ⊎_elim (λ k. carrier_rest cs p c r k)
-    (λ k. let b = by_some c d (cut d.old p) r k.1 in rw b.0 (append-cut d.old p r b.1))
-    (or_with (carrier cs p) (carried_by d (cut d.old p)) c r e)
 
 pub stays_front : (cs : List Carry) (p s : Names) → carrier cs (p ++ s) ≡ Stays → carrier cs p ≡ Stays
 stays_front [] p s e = refl

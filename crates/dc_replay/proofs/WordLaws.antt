@@ -5,18 +5,18 @@ use Rattle.std.proofs.lemmas.List.{append-nil, append_cancel_left}
 use Rattle.std.proofs.lemmas.Bool.{false_from_ne_true, and_from, or_left, or_right}
 use Rattle.dc_path.specs.Order.{path_lt}
 use Rattle.dc_path.specs.Paths.{Names, cut, same_path}
-use Rattle.dc_path.proofs.PathLemmas.{Last, append-cut, by_last_name, cut-append, empty, ended, last_case, same_ends, same_path-true}
+use Rattle.dc_path.proofs.PathLemmas.{Last, append-cut, by_last_name, cut-append, empty, ended, last_case, same_ends, same_path-true, not_under}
 use Rattle.dc_report.specs.Apart.{IsReport}
 use Rattle.dc_report.specs.Carrying.{Carried, Carry, Has, Place, Stays, With, carried_by, carrier, carries_of, carry_of, is_fresh, old_lt, place, place_of, plan}
 use Rattle.dc_report.specs.declared.entries.Entry.{Entry}
 use Rattle.dc_report.specs.declared.entries.Entry.TheVariants.{Created, Deleted, Renamed}
-use Rattle.dc_report.proofs.Carriers.{place_last}
-use Rattle.dc_report.proofs.PathOrder.{cut-longer}
+use Rattle.dc_report.proofs.Carriers.{place_last, carrier_stays, carrier_rest}
+use Rattle.dc_path.proofs.PathOrder.{cut-longer}
 use Rattle.dc_report.proofs.Sorting.{has_sort}
 use Rattle.dc_replay.specs.Words.{IsBelowPlace, IsLongestOld, LeadsByLongest, WordsMean}
 use Rattle.dc_report.proofs.HasLemmas.{any_has, has_filter_map}
-use Rattle.dc_replay.proofs.Staging.{IsAscending, carrier_stays}
-use Rattle.dc_replay.proofs.Where.{by_some, by_none, or_with, or_none, carrier_rest}
+use Rattle.dc_replay.proofs.Staging.{IsAscending}
+use Rattle.dc_replay.proofs.Where.{by_some, by_none, or_with, or_none}
 use Rattle.dc_report.proofs.WalkLemmas.{fresh_snoc}
 use Rattle.dc_replay.proofs.Allowed.{none_or, verdict_true}
 use Rattle.dc_replay.proofs.Testing.{has_any_path}
@@ -82,11 +82,6 @@ new_none ns q h = false_from_ne_true (list_any (λ n. same_path n.new q) ns) (λ
 
 verdict_more : (a b c : Bool) → b ≡ false → c ≡ true → (a || (not b && c)) ≡ true
 verdict_more a b c e f = or_right a (not b && c) (and_from (not b) c (ap not e) f)
-
-not_under : (p : Names) (x : List ℕ) (s t : Names) → p ≡ (p ++ x ∷ s) ++ t → ⊥
-not_under p x s t e =
-    let k : length p ≡ length ((p ++ x ∷ s) ++ t) = ap length e in
-    omega (arith, k, length-append (p ++ x ∷ s) t, length-append p (x ∷ s))
 
 module _ (R : List Entry) where
   -- a place stands below itself

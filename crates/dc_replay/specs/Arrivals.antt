@@ -1,10 +1,11 @@
 -- What a tree becomes by a report: one renaming, and the directories that are made (HDFS-7535).
 -- P is the plan of the report.
-use Rattle.std.specs.Prelude.{List, [], ◌∷◌, ◌++◌, Bool, false, cond, Option, Some, None}
+use Rattle.std.specs.Prelude.{List, [], ◌∷◌, ◌++◌, cond, Option, Some, None}
 use Rattle.dc_attrs.specs.Attributes.{default_dir}
 use Rattle.dc_attrs.specs.Trees.{Dir, Node, Tree}
-use Rattle.dc_path.specs.Paths.{Names, at_cut, cut, same_path}
+use Rattle.dc_path.specs.Paths.{Names, at_cut, cut}
 use Rattle.dc_report.specs.Carrying.{Place, Plan, is_made, moved}
+use Rattle.dc_report.specs.Landings.{is_at}
 
 -- what stands at a path: what stood there, or a renamed item with a rest after its new path
 pub data Arrival : Type 0 where
@@ -25,14 +26,9 @@ source_as q (From n r) = n.old ++ r
 abbrev pub source : List Place → Names → Names
 source ns q = source_as q (arrival ns q)
 
--- there is a path, and it is q
-abbrev pub leads : Option Names → Names → Bool
-leads None q = false
-leads (Some p) q = same_path p q
-
 -- what stood at the path that is moved to q
 abbrev pub came : Plan → Tree → Names → Option Node
-came P A q = let p = source P.news q in cond (leads (moved P.carries p) q) (A p) None
+came P A q = let p = source P.news q in cond (is_at (moved P.carries p) q) (A p) None
 
 -- what a tree becomes: a default directory at each parent to be made, and elsewhere what is moved there
 abbrev pub shifted : Plan → Tree → Tree

@@ -2,14 +2,14 @@
 -- R is the report, P its plan, A the tree, st the name of the stage.
 use Rattle.std.specs.Prelude.{ℕ, ◌≡◌, ◌⊎◌, List, [], ◌∷◌, ◌++◌, Bool, true, false, cond, not, Option, Some, None}
 use Rattle.std.specs.List.{filter, list_any}
-use Rattle.dc_attrs.specs.Trees.{IsDirAt, Tree}
+use Rattle.dc_attrs.specs.Trees.{IsDirAt, Tree, IsThere}
 use Rattle.dc_path.specs.Names.{same_name}
 use Rattle.dc_path.specs.Paths.{Names, same_path}
 use Rattle.dc_report.specs.Carrying.{Carry, Has, Place, Plan, carries_of, is_made, moved, place, plan}
-use Rattle.dc_replay.specs.Arrivals.{leads, source}
-use Rattle.dc_replay.specs.Places.{IsNodeAt}
+use Rattle.dc_replay.specs.Arrivals.{source}
 use Rattle.dc_report.specs.declared.entries.Entry.{Entry}
 use Rattle.dc_report.specs.declared.entries.Entry.TheVariants.{Created, Deleted, Modified, Renamed}
+use Rattle.dc_report.specs.Landings.{is_at}
 
 -- the path has a first name, which is not that of the stage
 pub record IsOff (st : List ℕ) (p : Names) : Type 0 where
@@ -28,7 +28,7 @@ IsMovedDir R A q = (p : Names) × IsDirAt A p × (where_to R p ≡ Some q)
 
 -- nothing that stands is moved to q
 abbrev pub NoneMovedTo : List Entry → Tree → Names → Type 0
-NoneMovedTo R A q = (p : Names) → IsNodeAt A p → where_to R p ≡ Some q → ⊥
+NoneMovedTo R A q = (p : Names) → IsThere A p → where_to R p ≡ Some q → ⊥
 
 -- q is a parent of a new path that is to be made
 abbrev pub is_to_be_made : List Entry → Names → Bool
@@ -42,13 +42,13 @@ pub record Passes (st : List ℕ) (R : List Entry) (A : Tree) : Type 0 where
   pub deleted_off : (p : Names) → Has R (Deleted p) → IsOff st p
   pub renamed_off : (a b : Names) → Has R (Renamed a b) → IsOff st a × IsOff st b
   -- what the report deletes, changes or renames stands
-  pub deleted : (p : Names) → Has R (Deleted p) → IsNodeAt A p
-  pub modified : (x : List ℕ) (p : Names) → Has R (Modified (x ∷ p)) → IsNodeAt A (x ∷ p)
-  pub renamed : (a b : Names) → Has R (Renamed a b) → IsNodeAt A a
+  pub deleted : (p : Names) → Has R (Deleted p) → IsThere A p
+  pub modified : (x : List ℕ) (p : Names) → Has R (Modified (x ∷ p)) → IsThere A (x ∷ p)
+  pub renamed : (a b : Names) → Has R (Renamed a b) → IsThere A a
   -- what is created is created in a directory, which is not deleted
   pub created : (d : Names) (x : List ℕ) → Has R (Created (d ++ x ∷ [])) → IsDirAt A d × ((q : Names) × (where_to R d ≡ Some q))
   -- nothing else is moved to a new path
-  pub own : (a b p : Names) → Has R (Renamed a b) → IsNodeAt A p → where_to R p ≡ Some b → p ≡ a
+  pub own : (a b p : Names) → Has R (Renamed a b) → IsThere A p → where_to R p ≡ Some b → p ≡ a
   -- the parent of a new path is the root, or a directory is moved there, or it is to be made
   pub parent : (a d : Names) (x : List ℕ) → Has R (Renamed a (d ++ x ∷ [])) → (d ≡ []) ⊎ (IsMovedDir R A d ⊎ (is_to_be_made R d ≡ true))
   -- nothing is moved to the place of something created
@@ -63,19 +63,19 @@ others n ns = filter (λ m. not (same_path m.new n.new)) ns
 
 -- the path that is looked at for q: the one that may be moved there, where it is
 abbrev pub look : List Carry → List Place → Names → Option Names
-look cs ns q = let p = source ns q in cond (leads (moved cs p) q) (Some p) None
+look cs ns q = let p = source ns q in cond (is_at (moved cs p) q) (Some p) None
 
 -- what the looks see
 pub record Looked (P : Plan) (A : Tree) : Type 0 where
   -- at the path that is looked at for a new path, the other items left out, nothing stands but the item itself
-  pub own : (n : Place) (p : Names) → Has P.news n → look P.carries (others n P.news) n.new ≡ Some p → IsNodeAt A p → p ≡ n.old
+  pub own : (n : Place) (p : Names) → Has P.news n → look P.carries (others n P.news) n.new ≡ Some p → IsThere A p → p ≡ n.old
   -- the parent of a new path is the root, or a directory stands at the path that is looked at, or it is to be made
   pub parent : (n : Place) (d : Names) (x : List ℕ) → Has P.news n → n.new ≡ d ++ x ∷ []
       → (d ≡ []) ⊎ (((p : Names) × IsDirAt A p × (look P.carries P.news d ≡ Some p)) ⊎ (is_made P P.news d ≡ true))
   -- nothing stands at the path that is looked at for a place
-  pub places : (q p : Names) → list_any (λ c. same_path c q) P.places ≡ true → look P.carries P.news q ≡ Some p → IsNodeAt A p → ⊥
+  pub places : (q p : Names) → list_any (λ c. same_path c q) P.places ≡ true → look P.carries P.news q ≡ Some p → IsThere A p → ⊥
   -- nor at the path that is looked at for a parent to be made
-  pub made : (q p : Names) → is_made P P.news q ≡ true → look P.carries P.news q ≡ Some p → IsNodeAt A p → ⊥
+  pub made : (q p : Names) → is_made P P.news q ≡ true → look P.carries P.news q ≡ Some p → IsThere A p → ⊥
 
 -- the stage is free, and no path that is deleted, renamed or new is the root or in the stage
 pub record IsStageFree (st : List ℕ) (R : List Entry) (A : Tree) : Type 0 where

@@ -1,5 +1,4 @@
 -- The modules of the definitions.
-pub mod Places
 pub mod Arrivals
 pub mod Steps
 pub mod Checking

@@ -1,9 +1,8 @@
 -- What moves make of a tree, which of them it does not refuse, and where they take its paths (HDFS-7535).
 use Rattle.std.specs.Prelude.{◌≡◌, List, [], ◌∷◌, ◌++◌, None}
 use Rattle.dc_attrs.specs.Attributes.{default_dir}
-use Rattle.dc_attrs.specs.Trees.{Dir, Tree, moved as tree_moved, with_node, without}
+use Rattle.dc_attrs.specs.Trees.{Dir, Tree, moved as tree_moved, with_node, without, IsThere, IsFree}
 use Rattle.dc_path.specs.Paths.{Names, at_cut, cut}
-use Rattle.dc_replay.specs.Places.{IsFree, IsNodeAt}
 use Rattle.dc_report.specs.declared.entries.Move.{Move}
 use Rattle.dc_report.specs.declared.entries.Move.TheVariants.{Clear, Make, Shift}
 
@@ -21,8 +20,8 @@ after (m ∷ ms) t = after ms (step m t)
 -- the move finds what it needs: what is moved or cleared stands and is not the root, and a new path is free and not under the old one
 abbrev pub IsAllowed : Tree → Move → Type 0
 IsAllowed t (Make p) = IsFree t p
-IsAllowed t (Shift a b) = IsNodeAt t a × IsFree t b × (cut a b ≡ None)
-IsAllowed t (Clear p) = IsNodeAt t p × (cut p [] ≡ None)
+IsAllowed t (Shift a b) = IsThere t a × IsFree t b × (cut a b ≡ None)
+IsAllowed t (Clear p) = IsThere t p × (cut p [] ≡ None)
 
 -- each move finds what it needs in the tree that those before it made
 abbrev pub AreAllowed : Tree → List Move → Type 0

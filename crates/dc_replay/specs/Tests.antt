@@ -1,7 +1,7 @@
 -- The tests that a tree must pass, in their order, each by a look at one path (HDFS-7535).
 -- R is the report, P its plan, A the tree.
-use Rattle.std.specs.Prelude.{List, [], ◌∷◌, ◌++◌, Bool, true, false, cond, not, ◌&&◌, ◌||◌, Option, Some, None, is_some, map, reverse}
-use Rattle.dc_attrs.specs.Trees.{Dir, File, Node, Tree}
+use Rattle.std.specs.Prelude.{List, [], ◌∷◌, ◌++◌, Bool, false, cond, not, ◌&&◌, ◌||◌, Option, Some, None, is_some, map, reverse}
+use Rattle.dc_attrs.specs.Trees.{Node, Tree, is_dir_node}
 use Rattle.dc_path.specs.Paths.{Names, front_of, is_root, same_path}
 use Rattle.dc_report.specs.Carrying.{Place, Plan, is_made, moved, plan}
 use Rattle.dc_replay.specs.Checking.{look, others}
@@ -18,12 +18,6 @@ first_some (Some p ∷ os) = Some p
 -- the path, unless the test holds
 abbrev pub unless : Bool → Names → Option Names
 unless b p = cond b None (Some p)
-
--- a directory stands
-abbrev pub is_dir_node : Option Node → Bool
-is_dir_node None = false
-is_dir_node (Some (Dir a)) = true
-is_dir_node (Some (File b a)) = false
 
 -- the node at the path that is looked at
 abbrev pub node_at : Tree → Option Names → Option Node

@@ -4,52 +4,41 @@
 use Rattle.std.specs.Prelude.{ℕ, ◌≡◌, List, [], ◌∷◌, ◌++◌, Bool, true, false, cond, ◌||◌, Option, Some, None}
 use Rattle.std.specs.List.{list_any}
 use Rattle.std.specs.Option.{option_or}
-use Rattle.dc_attrs.specs.Trees.{Dir, File, IsDirAt, Node, Tree}
-use Rattle.dc_path.specs.Names.{same_name}
-use Rattle.dc_path.specs.Paths.{Names}
+use Rattle.dc_attrs.specs.Trees.{IsDirAt, Node, Tree, is_dir, IsThere}
+use Rattle.dc_path.specs.Paths.{Names, has_name}
 use Rattle.dc_report.specs.Carrying.{Has, carries_of, is_fresh, place, plan}
-use Rattle.dc_replay.specs.Arrivals.{leads}
 use Rattle.dc_replay.specs.Checking.{NoneMovedTo, where_to}
-use Rattle.dc_replay.specs.Places.{IsNodeAt}
 use Rattle.dc_report.specs.declared.entries.Entry.{Entry}
 use Rattle.dc_report.specs.declared.entries.Entry.TheVariants.{Created, Deleted, Modified, Renamed}
-
--- the node is a directory
-abbrev pub is_dir : Node → Bool
-is_dir (Dir a) = true
-is_dir (File b a) = false
+use Rattle.dc_report.specs.Landings.{is_at}
 
 -- the report tells how O became N, but for bytes and attributes
 pub record IsTrueOf (R : List Entry) (O N : Tree) : Type 0 where
   -- what it deletes, changes or renames stood
-  pub deleted : (p : Names) → Has R (Deleted p) → IsNodeAt O p
-  pub modified : (x : List ℕ) (p : Names) → Has R (Modified (x ∷ p)) → IsNodeAt O (x ∷ p)
-  pub renamed : (a b : Names) → Has R (Renamed a b) → IsNodeAt O a
+  pub deleted : (p : Names) → Has R (Deleted p) → IsThere O p
+  pub modified : (x : List ℕ) (p : Names) → Has R (Modified (x ∷ p)) → IsThere O (x ∷ p)
+  pub renamed : (a b : Names) → Has R (Renamed a b) → IsThere O a
   -- no two paths went to one
-  pub apart : (p q r : Names) → IsNodeAt O p → IsNodeAt O q → where_to R p ≡ Some r → where_to R q ≡ Some r → p ≡ q
+  pub apart : (p q r : Names) → IsThere O p → IsThere O q → where_to R p ≡ Some r → where_to R q ≡ Some r → p ≡ q
   -- what went to a path stands there, as a file or a directory as before
   pub leads : (p q : Names) (x : Node) → O p ≡ Some x → where_to R p ≡ Some q → (y : Node) × (N q ≡ Some y) × (is_dir x ≡ is_dir y)
   -- what was created was created in a directory that was not deleted
   pub created : (d : Names) (x : List ℕ) → Has R (Created (d ++ x ∷ [])) → IsDirAt O d × ((q : Names) × (where_to R d ≡ Some q))
   -- it stands at its place, to which nothing went
-  pub places : (c q : Names) → Has R (Created c) → place (carries_of R) c ≡ Some q → IsNodeAt N q × NoneMovedTo R O q
+  pub places : (c q : Names) → Has R (Created c) → place (carries_of R) c ≡ Some q → IsThere N q × NoneMovedTo R O q
   -- what stands where nothing went is below a place
-  pub fresh : (q : Names) → IsNodeAt N q → NoneMovedTo R O q → is_fresh (plan R) q ≡ true
+  pub fresh : (q : Names) → IsThere N q → NoneMovedTo R O q → is_fresh (plan R) q ≡ true
 
 -- ---- hidden paths
--- one of the names is that of snapshots
-abbrev pub is_hidden : List ℕ → Names → Bool
-is_hidden snap p = list_any (same_name snap) p
-
 -- the tree without hidden paths
 abbrev pub plain : List ℕ → Tree → Tree
-plain snap T p = cond (is_hidden snap p) None (T p)
+plain snap T p = cond (has_name snap p) None (T p)
 
 -- no path that the report deletes, renames or creates is hidden
 pub record HasNoHidden (snap : List ℕ) (R : List Entry) : Type 0 where
-  pub deleted : (p : Names) → Has R (Deleted p) → is_hidden snap p ≡ false
-  pub renamed : (a b : Names) → Has R (Renamed a b) → (is_hidden snap a ≡ false) × (is_hidden snap b ≡ false)
-  pub created : (c : Names) → Has R (Created c) → is_hidden snap c ≡ false
+  pub deleted : (p : Names) → Has R (Deleted p) → has_name snap p ≡ false
+  pub renamed : (a b : Names) → Has R (Renamed a b) → (has_name snap a ≡ false) × (has_name snap b ≡ false)
+  pub created : (c : Names) → Has R (Created c) → has_name snap c ≡ false
 
 -- whether a directory stands, where something stands
 abbrev pub kind : Option Node → Option Bool
@@ -70,7 +59,7 @@ abbrev pub takes_modified : List Entry → Names → Entry → Bool
 takes_modified R q (Deleted p) = false
 takes_modified R q (Renamed a b) = false
 takes_modified R q (Created c) = false
-takes_modified R q (Modified p) = leads (where_to R p) q
+takes_modified R q (Modified p) = is_at (where_to R p) q
 
 -- what a copy with the report lists: what is new, and where what is modified goes
 abbrev pub is_listed : List Entry → Names → Bool
