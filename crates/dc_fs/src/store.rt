@@ -1,19 +1,20 @@
 //! Stores that are looked at, and the source of a copy.
 #![tactic(auto)]
 
-ghost use Rattle.std.specs.Prelude.{◌≡◌, ℕ, ◌≤◌, Bool, true, Option, length, IfOk, IfSome, IsSomeAnd, IsTrue};
+ghost use Rattle.std.specs.Prelude.{◌≡◌, ℕ, ◌≤◌, Bool, true, Option, length, IfOk, IfSome, IsSomeAnd, IsTrue, IsErrOf};
 ghost use Rattle.std.specs.List.{list_all};
 ghost use Rattle.std.specs.List.Sorted.{IsStrictlySortedBy};
 ghost use Rattle.std.specs.Cmp.Lexicographic.{slice_cmp};
 ghost use Rattle.std.specs.Ordering.{nat_cmp};
 ghost use Rattle.dc_attrs.specs.Trees.{Tree, seen, bytes_of};
-ghost use Rattle.dc_fs.specs.Causes.{raised, HasCause};
+ghost use Rattle.dc_fs.specs.Causes.{raised, HasCause, steady_at};
 ghost use Rattle.dc_fs.specs.Answers.{ReadAnswers, refused_status, refused_list, refused_read};
+ghost use Rattle.dc_fs.specs.Digests.{IsChecksum};
 ghost use Rattle.dc_fs.specs.Looks.{IsStatusOf, fits_kind, is_shown, AreNames, IsRead};
 
 use crate::{LookFault, ReadError};
 use dc_attrs::{Attrs, Seen};
-use dc_path::{List, Name, Path};
+use dc_path::{List, Name, OutOfMemory, Path};
 use std::alloc::Global;
 
 /// What stands at a path, with its attributes (HDFS, `FileStatus`).
@@ -40,6 +41,9 @@ pub trait Store: Drop {
     /// How often the store has failed.
     ghost faults: { Self → ℕ };
 
+    /// Whether no call fails, now and from now on.
+    ghost steady: { Self → Bool };
+
     /// How often the store was called.
     ghost looks: { Self → ℕ };
 
@@ -52,6 +56,8 @@ pub trait Store: Drop {
         ensures rest { rest self.new ≡ rest self.old }
         ensures looks { looks self.new ≡ raised (looks self.old) }
         ensures cause { HasCause (faults self.old) (faults self.new) result (record {}) }
+        ensures calm { steady_at (steady self.new) (faults self.new) ≡ steady_at (steady self.old) (faults self.old) }
+        ensures never { steady self.old ≡ true → IsErrOf result (record {}) → ⊥ }
         ensures seen { IfOk result (λ shown. IfSome (tree self.old) (λ t. shown ≡ seen t path.now)) };
 
     /// What stands at a path, with its length and attributes, which always fit its kind.
@@ -61,6 +67,8 @@ pub trait Store: Drop {
         ensures rest { rest self.new ≡ rest self.old }
         ensures looks { looks self.new ≡ raised (looks self.old) }
         ensures cause { HasCause (faults self.old) (faults self.new) result ReadError.Fault }
+        ensures calm { steady_at (steady self.new) (faults self.new) ≡ steady_at (steady self.old) (faults self.old) }
+        ensures never { steady self.old ≡ true → IsErrOf result ReadError.Fault → ⊥ }
         ensures fits { IfOk result (λ status. IsTrue (fits_kind status)) }
         ensures shows { IfOk result (λ status. IfSome (tree self.old) (λ t. IsStatusOf (t path.now) status)) }
         ensures answers { IfSome (tree self.old) (λ t. ReadAnswers (refused_status (seen t path.now)) result) };
@@ -72,6 +80,8 @@ pub trait Store: Drop {
         ensures rest { rest self.new ≡ rest self.old }
         ensures looks { looks self.new ≡ raised (looks self.old) }
         ensures cause { HasCause (faults self.old) (faults self.new) result ReadError.Fault }
+        ensures calm { steady_at (steady self.new) (faults self.new) ≡ steady_at (steady self.old) (faults self.old) }
+        ensures never { steady self.old ≡ true → IsErrOf result ReadError.Fault → ⊥ }
         ensures ascending { IfOk result (IsStrictlySortedBy (slice_cmp nat_cmp)) }
         ensures shown { IfOk result (λ names. IsTrue (list_all is_shown names)) }
         ensures names { IfOk result (λ names. IfSome (tree self.old) (λ t. AreNames t path.now names)) }
@@ -90,10 +100,44 @@ pub trait Store: Drop {
         ensures rest { rest self.new ≡ rest self.old }
         ensures looks { looks self.new ≡ raised (looks self.old) }
         ensures cause { HasCause (faults self.old) (faults self.new) result ReadError.Fault }
+        ensures calm { steady_at (steady self.new) (faults self.new) ≡ steady_at (steady self.old) (faults self.old) }
+        ensures never { steady self.old ≡ true → IsErrOf result ReadError.Fault → ⊥ }
         ensures within { IfOk result (λ count. count ≤ length into.new) }
         ensures read { IfOk result (λ count. IfSome (tree self.old) (λ t. IsSomeAnd (bytes_of (t path.now)) (λ bytes. IsRead bytes at count into.new))) }
         ensures answers { IfSome (tree self.old) (λ t. ReadAnswers (refused_read at (seen t path.now)) result) };
+
+    /// The MD5 digest of the first `length` bytes of a file.
+    /// It refuses `Missing`, `NotDir`, `IsDir`, and `Short` where the file has fewer bytes.
+    fn checksum(&mut self, alloc: Global, path: &Path, length: u64) -> Result<[u8; 16], ReadError>
+        ensures tree { tree self.new ≡ tree self.old }
+        ensures rest { rest self.new ≡ rest self.old }
+        ensures looks { looks self.new ≡ raised (looks self.old) }
+        ensures cause { HasCause (faults self.old) (faults self.new) result ReadError.Fault }
+        ensures calm { steady_at (steady self.new) (faults self.new) ≡ steady_at (steady self.old) (faults self.old) }
+        ensures never { steady self.old ≡ true → IsErrOf result ReadError.Fault → ⊥ }
+        ensures value { IfOk result (λ digest. IfSome (tree self.old) (λ t. IsChecksum length (t path.now) digest)) }
+        ensures answers { IfSome (tree self.old) (λ t. ReadAnswers (refused_read length (seen t path.now)) result) };
 }
 
 /// A store that is copied from.
-pub trait Source: Store + Send + Sync {}
+///
+/// Workers read through forks of it, each of its own. How often these have failed stands in `rest`, as `fork_faults`.
+pub trait Source: Store + Send + Sync {
+    ghost use Rattle.dc_fs.specs.Rest.{nothing_kept, rejoined_fork};
+
+    /// A store of the same tree, on which nothing was done yet. It is steady where this one is.
+    fn fork(&self, alloc: Global) -> Result<Self, OutOfMemory>
+        ensures tree { IfOk result (λ fork. Self.tree fork ≡ Self.tree self.now) }
+        ensures rest { IfOk result (λ fork. Self.rest fork ≡ nothing_kept) }
+        ensures looks { IfOk result (λ fork. Self.looks fork ≡ 0) }
+        ensures faults { IfOk result (λ fork. Self.faults fork ≡ 0) }
+        ensures steady { IfOk result (λ fork. Self.steady self.now ≡ true → Self.steady fork ≡ true) };
+
+    /// Takes a fork back: its faults, and those of its own forks, are counted here. Its looks are not. It takes no memory.
+    fn rejoin(&mut self, fork: Self)
+        ensures tree { Self.tree self.new ≡ Self.tree self.old }
+        ensures rest { Self.rest self.new ≡ rejoined_fork (Self.faults fork) (Self.rest fork).fork_faults (Self.rest self.old) }
+        ensures looks { Self.looks self.new ≡ Self.looks self.old }
+        ensures faults { Self.faults self.new ≡ Self.faults self.old }
+        ensures steady { Self.steady self.new ≡ Self.steady self.old };
+}
