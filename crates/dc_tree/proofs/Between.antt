@@ -7,6 +7,7 @@ use Rattle.dc_path.specs.Paths.{Names}
 use Rattle.dc_attrs.specs.Trees.{snapshot, is_hidden}
 use Rattle.dc_path.proofs.PathLemmas.{NameCase, same, other, name_case, same_name-refl}
 use Rattle.dc_path.proofs.OrderLemmas.{name_lt-trans, name_lt-apart}
+use Rattle.std.proofs.lemmas.Bool.{false_from_ne_true, or_parts, or_from, or_right}
 
 -- ---- names
 
@@ -54,18 +55,10 @@ heads x y tails h = heads_at x y (name_lt x y) tails refl (name_case x y) h
 pub by_first : (x y : List ℕ) (tails : Bool) → name_lt x y ≡ true → (name_lt x y || (same_name x y && tails)) ≡ true
 by_first x y tails h = ap (λ b. b || (same_name x y && tails)) h
 
-or_true : (b : Bool) → (b || true) ≡ true
-or_true true = refl
-or_true false = refl
-
 pub by_rest : (x : List ℕ) (tails : Bool) → tails ≡ true → (name_lt x x || (same_name x x && tails)) ≡ true
-by_rest x tails h = ap (λ b. name_lt x x || (b && tails)) (same_name-refl x) ∙ ap (λ b. name_lt x x || b) h ∙ or_true (name_lt x x)
+by_rest x tails h = ap (λ b. name_lt x x || (b && tails)) (same_name-refl x) ∙ ap (λ b. name_lt x x || b) h ∙ or_right (name_lt x x) true refl
 
-not_true : (b : Bool) → (b ≡ true → ⊥) → b ≡ false
-not_true true h = absurd (h refl)
-not_true false h = refl
-
-lt_nil : (t : Names) → path_lt t [] ≡ true → ⊥
+pub lt_nil : (t : Names) → path_lt t [] ≡ true → ⊥
 lt_nil [] h = cc
 lt_nil (x ∷ t) h = cc
 
@@ -149,7 +142,7 @@ up_first x y t (by_head h) = h
 up_first x y t (by_tails e h) = absurd (after_nil t h)
 
 after_tail : (z w : List ℕ) (s q : Names) → z ≡ w → is_after (z ∷ s) (w ∷ q) ≡ false → is_after s q ≡ false
-after_tail z w s q e h = not_true (is_after s q) (λ k. let t : is_after (z ∷ s) (w ∷ q) ≡ true = ap (λ (v : List ℕ). is_after (z ∷ s) (v ∷ q)) (sym e) ∙ by_rest z (is_after s q) k in cc)
+after_tail z w s q e h = false_from_ne_true (is_after s q) (λ k. let t : is_after (z ∷ s) (w ∷ q) ≡ true = ap (λ (v : List ℕ). is_after (z ∷ s) (v ∷ q)) (sym e) ∙ by_rest z (is_after s q) k in cc)
 
 up_heads : (z w : List ℕ) (s q : Names) (x : List ℕ) → (is_after (s ++ x ∷ []) q ≡ true → is_after s q ≡ false → (u : Under s q) × (name_lt x u.name ≡ true)) → Heads z w (is_after (s ++ x ∷ []) q) → is_after (z ∷ s) (w ∷ q) ≡ false → (u : Under (z ∷ s) (w ∷ q)) × (name_lt x u.name ≡ true)
 up_heads z w s q x ih (by_head h) k = let t : is_after (z ∷ s) (w ∷ q) ≡ true = by_first z w (is_after s q) h in cc
@@ -172,7 +165,7 @@ not_after_heads z w s q u ih (by_tails e h) (by_tails f k) = let i = ih h in cc
 pub not_after : (s q u : Names) → path_lt q (s ++ u) ≡ true → is_after s q ≡ false
 not_after [] q u h = refl
 not_after (z ∷ s) [] u h = refl
-not_after (z ∷ s) (w ∷ q) u h = not_true (is_after (z ∷ s) (w ∷ q)) (λ k. not_after_heads z w s q u (not_after s q u) (heads w z (path_lt q (s ++ u)) h) (heads z w (is_after s q) k))
+not_after (z ∷ s) (w ∷ q) u h = false_from_ne_true (is_after (z ∷ s) (w ∷ q)) (λ k. not_after_heads z w s q u (not_after s q u) (heads w z (path_lt q (s ++ u)) h) (heads z w (is_after s q) k))
 
 -- two paths under one are ordered by the names there
 sibling_heads : (z : List ℕ) (s t : Names) (y x : List ℕ) → (path_lt (s ++ y ∷ t) (s ++ x ∷ []) ≡ true → name_lt y x ≡ true) → Heads z z (path_lt (s ++ y ∷ t) (s ++ x ∷ [])) → name_lt y x ≡ true
@@ -185,21 +178,14 @@ sibling_lt (z ∷ s) t y x h = sibling_heads z s t y x (sibling_lt s t y x) (hea
 
 -- ---- hidden paths
 
-or_parts : (b c : Bool) → (b || c) ≡ false → (b ≡ false) × (c ≡ false)
-or_parts true c h = cc
-or_parts false c h = (refl, h)
-
-or_none : (b c : Bool) → b ≡ false → c ≡ false → (b || c) ≡ false
-or_none b c e f = ap (λ b. b || c) e ∙ f
-
 pub shown_name : (r : Names) (y : List ℕ) (t : Names) → is_hidden (r ++ y ∷ t) ≡ false → same_name snapshot y ≡ false
 shown_name [] y t h = (or_parts (same_name snapshot y) (is_hidden t) h).0
 shown_name (z ∷ r) y t h = shown_name r y t (or_parts (same_name snapshot z) (is_hidden (r ++ y ∷ t)) h).1
 
 pub shown_front : (r : Names) (t : Names) → is_hidden (r ++ t) ≡ false → is_hidden r ≡ false
 shown_front [] t h = refl
-shown_front (z ∷ r) t h = let w = or_parts (same_name snapshot z) (is_hidden (r ++ t)) h in or_none (same_name snapshot z) (is_hidden r) w.0 (shown_front r t w.1)
+shown_front (z ∷ r) t h = let w = or_parts (same_name snapshot z) (is_hidden (r ++ t)) h in or_from (same_name snapshot z) (is_hidden r) w.0 (shown_front r t w.1)
 
 pub shown_child : (r : Names) (x : List ℕ) → is_hidden r ≡ false → same_name snapshot x ≡ false → is_hidden (r ++ x ∷ []) ≡ false
-shown_child [] x h k = or_none (same_name snapshot x) false k refl
-shown_child (z ∷ r) x h k = let w = or_parts (same_name snapshot z) (is_hidden r) h in or_none (same_name snapshot z) (is_hidden (r ++ x ∷ [])) w.0 (shown_child r x w.1 k)
+shown_child [] x h k = or_from (same_name snapshot x) false k refl
+shown_child (z ∷ r) x h k = let w = or_parts (same_name snapshot z) (is_hidden r) h in or_from (same_name snapshot z) (is_hidden (r ++ x ∷ [])) w.0 (shown_child r x w.1 k)

@@ -14,11 +14,11 @@ use Rattle.dc_attrs.specs.Attributes.{Attributes}
 use Rattle.dc_attrs.specs.Trees.{Node, Dir, File}
 use Rattle.dc_tree.specs.Arena.{Cell, DirCell, GoneCell, cell_of, cell_at, node_of, links_of, find, node, link, way_on, way_from, IsDirNode}
 use Rattle.dc_tree.specs.Edits.{Links, Nodes, Puts, Child, Adds, Edit, Pops, PopsAt}
-use Rattle.dc_tree.specs.declared.arena.Slot.{Slot}
-use Rattle.dc_tree.specs.declared.arena.Popped.{Popped}
-use Rattle.dc_tree.specs.declared.arena.Popped.TheVariants as popped
-use Rattle.dc_tree.specs.declared.arena.Way.{Way}
-use Rattle.dc_tree.specs.declared.arena.Way.TheVariants as way_is
+use Rattle.dc_tree.specs.declared.slots.Slot.{Slot}
+use Rattle.dc_tree.specs.declared.slots.Popped.{Popped}
+use Rattle.dc_tree.specs.declared.slots.Popped.TheVariants as popped
+use Rattle.dc_tree.specs.declared.slots.Way.{Way}
+use Rattle.dc_tree.specs.declared.slots.Way.TheVariants as way_is
 
 pub cell_there : (slots : List Slot) (k : ℕ) (s : Slot) → slice_get slots k ≡ Some s → cell_at (map cell_of slots) k ≡ cell_of s
 cell_there [] k s e = cc

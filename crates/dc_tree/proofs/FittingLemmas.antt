@@ -1,20 +1,13 @@
 -- Which attributes fit what a look showed.
 use Rattle.std.proofs.Common.{◌≡◌, ℕ, [], true, Option, Some, None, refl, sym, ◌∙◌, ap}
 use Rattle.dc_path.specs.Paths.{Names}
-use Rattle.dc_attrs.specs.Attributes.{Attributes, default_file, default_dir, fits_file, fits_dir}
+use Rattle.dc_attrs.specs.Attributes.{Attributes, fits_file, fits_dir}
 use Rattle.dc_attrs.specs.Trees.{Node, Dir, File, Tree, IsTree, seen, seen_node}
 use Rattle.dc_attrs.specs.declared.shown.Seen.TheVariants as seen_as
 use Rattle.dc_attrs.proofs.TreeLemmas.{seen_from-Dir, seen_from-File, seen_from-there, dir_at, file_at}
-use Rattle.dc_tree.specs.Fitting.{fits_at}
-
+use Rattle.dc_attrs.specs.Fitting.{fits_at}
 -- the attributes of what is new fit
-pub default_dir_fits : fits_dir default_dir ≡ true
-unfolding default_dir
-default_dir_fits = refl
-
-pub default_file_fits : fits_file default_file ≡ true
-unfolding default_file
-default_file_fits = refl
+pub use Rattle.dc_attrs.proofs.DefaultLemmas.{default_dir_fits, default_file_fits}
 
 -- attributes of a directory fit where a directory was seen
 pub fits_seen_dir : (t : Tree) (p : Names) (a : Attributes) → seen t p ≡ seen_as.Dir → fits_dir a ≡ true → fits_at (t p) a ≡ true

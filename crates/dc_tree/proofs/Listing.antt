@@ -8,7 +8,7 @@ use Rattle.std.specs.BTreeMap.{BTreeMap, keys, IsOrdered}
 use Rattle.std.specs.Ordering.{nat_cmp, is_eq}
 use Rattle.std.specs.Cmp.Lexicographic.{slice_cmp}
 use Rattle.std.proofs.lemmas.Map.Text.{is_eq-slice_cmp}
-use Rattle.dc_tree.specs.declared.arena.Slot.{Slot}
+use Rattle.dc_tree.specs.declared.slots.Slot.{Slot}
 use Rattle.dc_attrs.specs.Trees.{Node, Tree}
 use Rattle.dc_path.specs.Names.{same_name}
 use Rattle.dc_tree.specs.Arena.{Cell, cell_of, cell_at, links_of, find, link, node, reach, tree_of, IsArena}

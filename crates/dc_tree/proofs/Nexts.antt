@@ -1,5 +1,5 @@
 -- The names in a directory, one after the other, and a step to one of them in two parts.
-use Rattle.std.proofs.Common.{◌≡◌, ◌≢◌, ℕ, List, [], ◌∷◌, ◌++◌, Bool, true, false, cond, ◌&&◌, ◌||◌, not, zero, suc, Option, Some, None, refl, sym, ◌∙◌, ap, subst, arith, slice_get}
+use Rattle.std.proofs.Common.{◌≡◌, ◌≢◌, ℕ, List, [], ◌∷◌, ◌++◌, Bool, true, false, cond, ◌||◌, not, zero, suc, Option, Some, None, refl, sym, ◌∙◌, ap, subst, arith, slice_get}
 use Rattle.std.proofs.lemmas.Bool.Decides.{nat_tests}
 use Rattle.std.proofs.lemmas.Cmp.{same_from_slice_cmp}
 use Rattle.std.specs.List.{AllByRecursion}
@@ -9,7 +9,6 @@ use Rattle.std.specs.Cmp.Lexicographic.{slice_cmp}
 use Rattle.std.specs.BTreeMap.{BTreeMap, IsLowerBound}
 use Rattle.std.specs.BTreeMap.Range.{IsRangeOf, IsEntryInRange, IsLeBy}
 use Rattle.std.specs.declared.ops.Bound.TheVariants.{Excluded, Unbounded}
-use Rattle.std.specs.declared.cmp.Ordering.{Ordering}
 use Rattle.std.specs.declared.cmp.Ordering.TheVariants.{Less}
 use Rattle.std.proofs.lemmas.Map.Text.{is_eq-slice_cmp}
 use Rattle.dc_path.specs.Names.{same_name}
@@ -21,18 +20,16 @@ use Rattle.dc_tree.specs.Arena.{Cell, cell_at, links_of, find, link}
 use Rattle.dc_tree.specs.Walking.{comes_after, is_next, IsFirst, NoneLeads, FitsFirst, AreKnown, IsUnknown}
 use Rattle.dc_tree.proofs.Cells.{link_is}
 use Rattle.dc_tree.proofs.Between.{NameOrder, before, equal, behind, name_order, name_lt-irrefl}
+use Rattle.std.proofs.lemmas.Bool.{and_parts, and_from, not-true}
+use Rattle.dc_path.proofs.PathOrder.{less_is}
 
 -- ---- the first name of a map after another one
 
 name_gt-cmp : (x y : List ℕ) → name_lt y x ≡ is_gt (slice_cmp nat_cmp x y)
 name_gt-cmp x y = sym (same_from_slice_cmp nat_cmp is_gt (λ x y. name_lt y x) refl (λ _ _. refl) (λ _ _. refl) (λ a b xs ys o h. grind (arith, nat_tests)) x y (slice_cmp nat_cmp x y) refl)
 
-less_of : (o : Ordering) → is_lt o ≡ true → o ≡ Less
-less_of Less h = refl
-less_of _ h = cc
-
 lt_less : (x y : List ℕ) → name_lt x y ≡ true → slice_cmp nat_cmp x y ≡ Less
-lt_less x y h = less_of (slice_cmp nat_cmp x y) (sym (name_lt-cmp x y) ∙ h)
+lt_less x y h = less_is (slice_cmp nat_cmp x y) (sym (name_lt-cmp x y) ∙ h)
 
 -- a name that is not found, since it would be no less than the first
 not_found : (x y : List ℕ) (o : Option ℕ) → name_lt y x ≡ true → (IsSome o → is_gt (slice_cmp nat_cmp x y) ≡ false) → o ≡ None
@@ -66,22 +63,11 @@ first_of_all m y v f least = record {
 
 -- ---- without the hidden name
 
-both_parts : (b c : Bool) → (b && c) ≡ true → (b ≡ true) × (c ≡ true)
-both_parts true c h = (refl, h)
-both_parts false c h = cc
-
-both_hold : (b c : Bool) → b ≡ true → c ≡ true → (b && c) ≡ true
-both_hold b c e f = ap (λ b. b && c) e ∙ f
-
-not_shown : (b : Bool) → not b ≡ true → b ≡ false
-not_shown true h = cc
-not_shown false h = refl
-
 pub next_parts : (after : Option (List ℕ)) (y : List ℕ) → is_next after y ≡ true → (comes_after after y ≡ true) × (same_name snapshot y ≡ false)
-next_parts after y h = let w = both_parts (comes_after after y) (not (same_name snapshot y)) h in (w.0, not_shown (same_name snapshot y) w.1)
+next_parts after y h = let w = and_parts (comes_after after y) (not (same_name snapshot y)) h in (w.0, not-true (same_name snapshot y) w.1)
 
 pub next_of : (after : Option (List ℕ)) (y : List ℕ) → comes_after after y ≡ true → same_name snapshot y ≡ false → is_next after y ≡ true
-next_of after y h k = both_hold (comes_after after y) (not (same_name snapshot y)) h (ap not k)
+next_of after y h k = and_from (comes_after after y) (not (same_name snapshot y)) h (ap not k)
 
 farther : (after : Option (List ℕ)) (x y : List ℕ) → comes_after after x ≡ true → name_lt x y ≡ true → comes_after after y ≡ true
 farther None x y h k = refl

@@ -8,7 +8,7 @@ use Rattle.dc_attrs.specs.Attributes.{Attributes}
 use Rattle.dc_attrs.specs.Trees.{Node, Dir, File, Tree, with_node, without, moved}
 use Rattle.dc_path.specs.Names.{same_name}
 use Rattle.dc_path.specs.Paths.{same_path, cut, at_cut}
-use Rattle.dc_tree.specs.Fitting.{is_fitting}
+use Rattle.dc_attrs.specs.Fitting.{is_fitting}
 use Rattle.dc_tree.specs.Arena.{reach, IsForest}
 use Rattle.dc_tree.specs.Edits.{Relinked, Renoded}
 use Rattle.dc_path.proofs.PathLemmas.{path_decides, cut-append, append-cut, not_longer, Last, empty, ended, last_case, same_name-refl, name_decides, cut_more}

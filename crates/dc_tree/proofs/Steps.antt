@@ -7,10 +7,10 @@ use Rattle.dc_attrs.specs.Attributes.{Attributes}
 use Rattle.dc_attrs.specs.declared.shown.Seen.TheVariants as seen_as
 use Rattle.dc_attrs.specs.Trees.{seen_node, Node, Dir, File, Tree, with_node, without, moved, updated, appended, with_attrs}
 use Rattle.dc_path.specs.Paths.{front_of, cut}
-use Rattle.dc_tree.specs.Fitting.{is_fitting, fits_at}
+use Rattle.dc_attrs.specs.Fitting.{is_fitting, fits_at}
 use Rattle.dc_attrs.specs.Attributes.{fits_dir}
 use Rattle.dc_tree.specs.Arena.{Cell, DirCell, FileCell, cell_at, node_of, links_of, find, link, node, reach, tree_of, IsForest, IsArena, IsFileNode}
-use Rattle.dc_tree.specs.Places.{IsVacant, IsTaken, IsRoot}
+use Rattle.dc_tree.specs.Places.{IsVacant, IsTaken, IsAt}
 use Rattle.dc_tree.specs.Edits.{Adds, Nodes, Puts, Links, Relinked, Keeps}
 use Rattle.dc_tree.proofs.Graph.{Link, IsOrphan, cut_orphan, forest_cut, kept_below, reached_live, was_link}
 use Rattle.dc_tree.proofs.Ops.{graph_tree, IsMaking, forest_made, tree_made, forest_renode, tree_with, forest_gone, tree_gone, tree_cut, IsMoving, forest_moved, tree_moved, PathCase, path_case, same_paths, two_paths, moved_here, moved_rest}
@@ -20,9 +20,9 @@ use Rattle.dc_tree.proofs.Homing.{homes_set, homes_same}
 use Rattle.dc_tree.proofs.Cells.{nodes_set, link_is, node_is, same_links, same_nodes}
 use Rattle.dc_tree.proofs.Ways.{tree_of-is}
 
-pub on_either : {T E P Q R S G : Type 0} (r : Result T E) → OnOk r P → OnOk r Q → OnErr r R → OnErr r S → (P → Q → G) → (R → S → G) → G
-on_either (Ok x) p q r s f g = f p q
-on_either (Err e) p q r s f g = g r s
+pub on_either : {T E P R G : Type 0} (r : Result T E) → OnOk r P → OnErr r R → (P → G) → (R → G) → G
+on_either (Ok x) p r f g = f p
+on_either (Err e) p r f g = g r
 
 pub some_of : (o : Option Node) → IsSome o → (v : Node) × (o ≡ Some v)
 some_of None h = cc
@@ -81,9 +81,9 @@ kind_leaf old at v f (files b a c d o e) k l h x = f.leaves at x b a o
 pub renoded_arena : (old new : List Cell) (at : ℕ) (v : Node) → IsArena old → SameKind (node old at) v → is_fitting (Some v) ≡ true → Nodes old at (Some v) new → IsArena new
 renoded_arena old new at v f k fits n = subst (λ (g : Link). IsForest g (node new)) (sym n.links) (forest_renode (link old) (node old) (node new) at v f n.put (kind_root old at v f k) (kind_leaf old at v f k) fits)
 
-pub renoded_tree : (old new : List Cell) (at : ℕ) (v : Node) (p : List (List ℕ)) → IsArena old → reach (link old) 0 p ≡ Some at → Nodes old at (Some v) new → tree_of new ≡ with_node (tree_of old) p v
-renoded_tree old new at v p f r n =
-    tree_of-is new ∙ ap (λ (g : Link). graph_tree g (node new)) n.links ∙ tree_with (link old) (node old) (node new) at v p f r n.put
+pub renoded_tree : (old new : List Cell) (at : ℕ) (v : Node) (p : List (List ℕ)) → IsAt old p at → Nodes old at (Some v) new → tree_of new ≡ with_node (tree_of old) p v
+renoded_tree old new at v p w n =
+    tree_of-is new ∙ ap (λ (g : Link). graph_tree g (node new)) n.links ∙ tree_with (link old) (node old) (node new) at v p w.forest w.at n.put
     ∙ ap (λ (t : Tree). with_node t p v) (sym (tree_of-is old))
 
 file_bare : (old : List Cell) (at : ℕ) → IsArena old → IsFileNode (node old at) → (x : List ℕ) → find x (links_of (cell_at old at)) ≡ None
@@ -183,9 +183,9 @@ updated_at f t p v e q (two_paths b differ) = ap (λ b. cond b (Some v) (t q)) b
 updated_is : (f : Option Node → Option Node) (t : Tree) (p : List (List ℕ)) (v : Node) → f (t p) ≡ Some v → with_node t p v ≡ updated t p f
 updated_is f t p v e = fun_ext (λ q. updated_at f t p v e q (path_case p q))
 
-pub updated_tree : (f : Option Node → Option Node) (old new : List Cell) (at : ℕ) (p : List (List ℕ)) (v : Node) → IsArena old → reach (link old) 0 p ≡ Some at → tree_of old p ≡ node old at → f (node old at) ≡ Some v → Nodes old at (f (node old at)) new → tree_of new ≡ updated (tree_of old) p f
-updated_tree f old new at p v a r is e n =
-    renoded_tree old new at v p a r (subst (λ (o : Option Node). Nodes old at o new) e n) ∙ updated_is f (tree_of old) p v (ap f is ∙ e)
+pub updated_tree : (f : Option Node → Option Node) (old new : List Cell) (at : ℕ) (p : List (List ℕ)) (v : Node) → IsAt old p at → f (node old at) ≡ Some v → Nodes old at (f (node old at)) new → tree_of new ≡ updated (tree_of old) p f
+updated_tree f old new at p v w e n =
+    renoded_tree old new at v p w (subst (λ (o : Option Node). Nodes old at o new) e n) ∙ updated_is f (tree_of old) p v (ap f w.node ∙ e)
 
 dressed : (attrs : Attributes) (o : Option Node) (w : Node) → o ≡ Some w → (v : Node) × (with_attrs attrs o ≡ Some v) × SameKind o v
 dressed attrs None w e = cc
@@ -197,15 +197,10 @@ dressed_arena old new at attrs w f e fits n =
     let d = dressed attrs (node old at) w e in
     renoded_arena old new at d.0 f d.2 (sym (ap is_fitting d.1) ∙ fits) (subst (λ (o : Option Node). Nodes old at o new) d.1 n)
 
-pub dressed_tree : (old new : List Cell) (at : ℕ) (attrs : Attributes) (p : List (List ℕ)) (w : Node) → IsArena old → reach (link old) 0 p ≡ Some at → tree_of old p ≡ node old at → node old at ≡ Some w → Nodes old at (with_attrs attrs (node old at)) new → tree_of new ≡ updated (tree_of old) p (with_attrs attrs)
-dressed_tree old new at attrs p w f r is e n =
-    let d = dressed attrs (node old at) w e in
-    updated_tree (with_attrs attrs) old new at p d.0 f r is d.1 n
-
-pub root_dressed : (old new : List Cell) (attrs : Attributes) (p : List (List ℕ)) → IsRoot old p → Nodes old 0 (with_attrs attrs (node old 0)) new → tree_of new ≡ updated (tree_of old) p (with_attrs attrs)
-root_dressed old new attrs p r n =
-    let here : tree_of old p ≡ node old 0 = ap (tree_of old) r.is ∙ ap (λ (t : Tree). t []) (tree_of-is old) in
-    dressed_tree old new 0 attrs p (Dir r.forest.root.0) r.forest (ap (reach (link old) 0) r.is) here r.forest.root.1 n
+pub dressed_tree : (old new : List Cell) (at : ℕ) (attrs : Attributes) (p : List (List ℕ)) → IsAt old p at → Nodes old at (with_attrs attrs (node old at)) new → tree_of new ≡ updated (tree_of old) p (with_attrs attrs)
+dressed_tree old new at attrs p w n =
+    let d = dressed attrs (node old at) w.there.0 w.there.1 in
+    updated_tree (with_attrs attrs) old new at p d.0 w d.1 n
 
 longer : (more : List ℕ) (o : Option Node) → IsFileNode o → (v : Node) × (appended more o ≡ Some v) × SameKind o v
 longer more o (b, a, e) = (File (b ++ more) a, ap (appended more) e, files b a (b ++ more) a e refl)
@@ -220,10 +215,10 @@ longer_arena old new at more f k n =
     let d = longer more (node old at) k in
     renoded_arena old new at d.0 f d.2 (sym (ap is_fitting d.1) ∙ longer_fits more (node old at) (f.fits at)) (subst (λ (o : Option Node). Nodes old at o new) d.1 n)
 
-pub longer_tree : (old new : List Cell) (at : ℕ) (more : List ℕ) (p : List (List ℕ)) → IsArena old → reach (link old) 0 p ≡ Some at → tree_of old p ≡ node old at → IsFileNode (node old at) → Nodes old at (appended more (node old at)) new → tree_of new ≡ updated (tree_of old) p (appended more)
-longer_tree old new at more p f r is k n =
+pub longer_tree : (old new : List Cell) (at : ℕ) (more : List ℕ) (p : List (List ℕ)) → IsAt old p at → IsFileNode (node old at) → Nodes old at (appended more (node old at)) new → tree_of new ≡ updated (tree_of old) p (appended more)
+longer_tree old new at more p w k n =
     let d = longer more (node old at) k in
-    updated_tree (appended more) old new at p d.0 f r is d.1 n
+    updated_tree (appended more) old new at p d.0 w d.1 n
 
 -- what is at a path is taken out, given up and drained
 
@@ -238,13 +233,13 @@ module _ (old one two : List Cell) (p : List (List ℕ)) (parent child : ℕ) (n
   held = taken_held old p parent child name w e
 
   cut_arena : IsArena one
-  cut_arena = subst (λ (n : ℕ → Option Node). IsForest (link one) n) (sym l.nodes) (forest_cut (link old) (link one) (node old) parent name w.forest l.set)
+  cut_arena = subst (λ (n : ℕ → Option Node). IsForest (link one) n) (sym l.nodes) (forest_cut (link old) (link one) (node old) parent name w.stands.forest l.set)
 
   cut_out : IsOrphan (link one) child
-  cut_out = cut_orphan (link old) (link one) (node old) parent name child w.forest l.set held
+  cut_out = cut_orphan (link old) (link one) (node old) parent name child w.stands.forest l.set held
 
   not_root : child ≡ 0 → ⊥
-  not_root z = w.forest.no_root parent name (held ∙ ap (λ (j : ℕ). Some j) z)
+  not_root z = w.stands.forest.no_root parent name (held ∙ ap (λ (j : ℕ). Some j) z)
 
   pub unhung_arena : IsArena two
   unhung_arena = orphan_arena one two child cut_arena cut_out not_root n
@@ -252,7 +247,7 @@ module _ (old one two : List Cell) (p : List (List ℕ)) (parent child : ℕ) (n
   pub unhung_tree : tree_of two ≡ without (tree_of old) p
   unhung_tree =
       orphan_tree one two child cut_out not_root n
-      ∙ tree_of-is one ∙ ap (graph_tree (link one)) l.nodes ∙ tree_cut (link old) (link one) (node old) (front_of p) parent name w.forest w.under.there l.set
+      ∙ tree_of-is one ∙ ap (graph_tree (link one)) l.nodes ∙ tree_cut (link old) (link one) (node old) (front_of p) parent name w.stands.forest w.under.there l.set
       ∙ ap (without (graph_tree (link old) (node old))) (ap (λ (x : List ℕ). front_of p ++ x ∷ []) (named old p parent child name w e) ∙ sym w.under.is)
       ∙ ap (λ (t : Tree). without t p) (sym (tree_of-is old))
 
@@ -273,7 +268,7 @@ module _ (old one two : List Cell) (p q : List (List ℕ)) (a c b : ℕ) (x y : 
 
   moving : IsMoving (link old) (link one) (link two) (node old) (front_of p) a x c (front_of q) b y
   moving = record {
-    forest = w.forest;
+    forest = w.stands.forest;
     from = w.under.there;
     held = ap (link old a) x_is ∙ w.held;
     to = v.under.there;

@@ -4,7 +4,8 @@ use Rattle.std.specs.Option.{option_and_then}
 use Rattle.dc_attrs.specs.Trees.{Tree, Node, Dir, File}
 use Rattle.dc_tree.specs.Arena.{Cell, link, node, reach, tree_of, IsArena, IsDirNode}
 use Rattle.dc_attrs.specs.Trees.{IsTree}
-use Rattle.dc_tree.specs.Fitting.{is_fitting, HasFittingAttrs}
+use Rattle.dc_tree.specs.Places.{IsWhole}
+use Rattle.dc_attrs.specs.Fitting.{is_fitting, HasFittingAttrs}
 use Rattle.dc_path.specs.Paths.{Names}
 use Rattle.dc_tree.proofs.Graph.{reach_before, reached_live, then_from}
 use Rattle.dc_tree.proofs.Ways.{tree_of-is, tree_here}
@@ -40,3 +41,6 @@ is_fitting_tree cells f = record {
   dirs = λ p a e. ap is_fitting (sym e) ∙ fits_path cells p f;
   files = λ p b a e. ap is_fitting (sym e) ∙ fits_path cells p f;
 }
+
+pub whole : (cells : List Cell) → IsArena cells → IsWhole cells
+whole cells f = (f, is_tree cells f)

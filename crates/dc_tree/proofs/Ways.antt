@@ -5,14 +5,15 @@ use Rattle.dc_attrs.specs.Attributes.{Attributes}
 use Rattle.dc_attrs.specs.declared.shown.Seen.TheVariants as seen_as
 use Rattle.std.proofs.Math.Seq.{take-length}
 use Rattle.dc_path.specs.Paths.{Names}
-use Rattle.dc_tree.specs.declared.arena.Slot.{Slot}
-use Rattle.dc_tree.specs.declared.arena.Way.{Way}
-use Rattle.dc_tree.specs.declared.arena.Way.TheVariants as way_is
+use Rattle.dc_tree.specs.declared.slots.Slot.{Slot}
+use Rattle.dc_tree.specs.declared.slots.Way.{Way}
+use Rattle.dc_tree.specs.declared.slots.Way.TheVariants as way_is
 use Rattle.dc_attrs.specs.Trees.{Node, Dir, File, Tree, seen_node, seen_on, seen_from, seen}
 use Rattle.dc_path.specs.Paths.{front_of}
 use Rattle.dc_attrs.specs.Refusals.{refused_in, refused_at, refused_file}
 use Rattle.dc_tree.specs.Arena.{cell_of, Cell, reach, link, node, tree_of, IsArena, way_on, way_from, seen_way, node_way}
-use Rattle.dc_tree.specs.Places.{IsUnder, IsRoot, IsTaken, IsVacant, IsCutOff}
+use Rattle.dc_tree.specs.Places.{IsUnder, IsRoot, IsTaken, IsVacant, IsCutOff, IsAt, IsAbsent}
+use Rattle.dc_attrs.specs.declared.refusals.TreeError.{TreeError}
 use Rattle.dc_attrs.specs.declared.refusals.TreeError.TheVariants as tree_error
 use Rattle.dc_tree.proofs.Graph.{reach_next, reached_live}
 use Rattle.dc_path.proofs.PathLemmas.{ends_in}
@@ -130,20 +131,45 @@ there_of : (o : Option Node) → o ≢ None → (v : Node) × (o ≡ Some v)
 there_of None h = absurd (h refl)
 there_of (Some v) h = (v, refl)
 
+-- what is at the end of a way that leads nowhere
+absent_at : (cells : List Cell) (p : Names) (way : Way) (why : TreeError) → IsArena cells → way_from cells 0 p ≡ way → why ≢ tree_error.Memory → node_way cells way ≡ None
+    → refused_at (seen_way cells way) ≡ Some why → refused_file (seen_way cells way) ≡ Some why → refused_in (seen_way cells way) ≡ Some why → IsAbsent cells p why
+absent_at cells p way why f e m n at file dir =
+    let shown = seen_by_way cells p ∙ ap (seen_way cells) e in
+    record {
+      memory = m;
+      absent = node_by_way cells p f ∙ ap (node_way cells) e ∙ n;
+      at = ap refused_at shown ∙ at;
+      file = ap refused_file shown ∙ file;
+      dir = ap refused_in shown ∙ dir;
+    }
+
+lacking : (cells : List Cell) (p : Names) → IsArena cells → way_from cells 0 p ≡ way_is.Missing → IsAbsent cells p tree_error.Missing
+lacking cells p f e = absent_at cells p way_is.Missing tree_error.Missing f e (λ m. cc) refl refl refl refl
+
+stopped : (cells : List Cell) (p : Names) → IsArena cells → way_from cells 0 p ≡ way_is.NotDir → IsAbsent cells p tree_error.NotDir
+stopped cells p f e = absent_at cells p way_is.NotDir tree_error.NotDir f e (λ m. cc) refl refl refl refl
+
+-- what is at the end of a way that leads to a cell
+pub stands_at : (cells : List Cell) (p : Names) (k : ℕ) → IsArena cells → reach (link cells) 0 p ≡ Some k → seen (tree_of cells) p ≡ seen_node (node cells k) → IsAt cells p k
+stands_at cells p k f r s = record {
+  forest = f;
+  at = r;
+  there = there_of (node cells k) (reached_live (link cells) (node cells) f p k r);
+  seen = s;
+  node = tree_here cells p k r;
+}
+
 pub taken : (cells : List Cell) (p : List (List ℕ)) (x : List ℕ) (parent child : ℕ) → IsArena cells → slice_get p (length p - 1) ≡ Some x → way_is.At parent ≡ way_from cells 0 (front_of p) → Step (node cells parent) (link cells parent x) (way_is.At child) → IsTaken cells p parent child
 unfolding under
 taken cells p x parent child f e w (goes a c n l h) =
     let same : child ≡ c = cc in
     let way : way_from cells 0 p ≡ way_is.At child = way_last cells p x (way_is.At parent) e w ∙ ap (λ (o : Option Node). way_on o (link cells parent x) (λ c. way_is.At c)) n ∙ ap (λ (o : Option ℕ). way_on (Some (Dir a)) o (λ c. way_is.At c)) l ∙ sym h in
     record {
-      forest = f;
       some = not_empty p x e;
-      at = way_reach cells 0 p child way;
-      there = there_of (node cells child) (reached_live (link cells) (node cells) f p child (way_reach cells 0 p child way));
-      seen = seen_by_way cells p ∙ ap (seen_way cells) way;
+      stands = stands_at cells p child f (way_reach cells 0 p child way) (seen_by_way cells p ∙ ap (seen_way cells) way);
       under = under cells p x parent a e w n;
       held = l ∙ ap (λ (j : ℕ). Some j) (sym same);
-      node = node_by_way cells p f ∙ ap (node_way cells) way;
     }
 taken cells p x parent child f e w (lacks a n l h) = cc
 taken cells p x parent child f e w (stops b a n h) = cc
@@ -172,10 +198,8 @@ under_file cells p x parent f e w (stops b a n h) =
     let way : way_from cells 0 p ≡ way_is.NotDir = way_last cells p x (way_is.At parent) e w ∙ ap (λ (o : Option Node). way_on o (link cells parent x) (λ c. way_is.At c)) n in
     record {
       some = not_empty p x e;
-      absent = node_by_way cells p f ∙ ap (node_way cells) way;
+      absent = stopped cells p f way;
       front = ap refused_in (seen_by_way cells (front_of p) ∙ ap (seen_way cells) (sym w) ∙ ap seen_node n);
-      at = ap refused_at (seen_by_way cells p ∙ ap (seen_way cells) way);
-      file = ap refused_file (seen_by_way cells p ∙ ap (seen_way cells) way);
     }
 under_file cells p x parent f e w (nowhere n) = absurd (reached_live (link cells) (node cells) f (front_of p) parent (way_reach cells 0 (front_of p) parent (sym w)) n)
 
@@ -184,10 +208,8 @@ front_lacks cells p x f e w =
     let way = way_last cells p x way_is.Missing e w in
     record {
       some = not_empty p x e;
-      absent = node_by_way cells p f ∙ ap (node_way cells) way;
+      absent = lacking cells p f way;
       front = ap refused_in (seen_by_way cells (front_of p) ∙ ap (seen_way cells) (sym w));
-      at = ap refused_at (seen_by_way cells p ∙ ap (seen_way cells) way);
-      file = ap refused_file (seen_by_way cells p ∙ ap (seen_way cells) way);
     }
 
 pub front_stops : (cells : List Cell) (p : List (List ℕ)) (x : List ℕ) → IsArena cells → slice_get p (length p - 1) ≡ Some x → way_is.NotDir ≡ way_from cells 0 (front_of p) → IsCutOff cells p tree_error.NotDir
@@ -195,10 +217,8 @@ front_stops cells p x f e w =
     let way = way_last cells p x way_is.NotDir e w in
     record {
       some = not_empty p x e;
-      absent = node_by_way cells p f ∙ ap (node_way cells) way;
+      absent = stopped cells p f way;
       front = ap refused_in (seen_by_way cells (front_of p) ∙ ap (seen_way cells) (sym w));
-      at = ap refused_at (seen_by_way cells p ∙ ap (seen_way cells) way);
-      file = ap refused_file (seen_by_way cells p ∙ ap (seen_way cells) way);
     }
 
 pub step_is_of : (cells : List Cell) (k : ℕ) (x : List ℕ) (w : Way) → w ≡ way_on (node cells k) (link cells k x) (λ c. way_is.At c) → Step (node cells k) (link cells k x) w

@@ -2,7 +2,7 @@
 use Rattle.std.proofs.Common.{◌≡◌, ◌≢◌, ℕ, ◌+◌, ◌<◌, ◌≤◌, List, [], ◌∷◌, ◌++◌, Bool, true, false, ◌&&◌, ◌||◌, Option, Some, None, length, length-append, refl, sym, ◌∙◌, ap, subst, arith, zero, suc, nat_eq, inl, inr, ◌⊎◌}
 use Rattle.std.specs.Option.{option_and_then}
 use Rattle.std.specs.List.{list_any, list_all, IsDistinct, AllByRecursion}
-use Rattle.std.proofs.lemmas.Bool.{cases_eq, eqb-true}
+use Rattle.std.proofs.lemmas.Bool.{cases_eq, eqb-true, and_parts}
 use Rattle.std.proofs.lemmas.Bool.Decides.{nat_tests}
 use Rattle.std.proofs.lemmas.Map.Steps.{length-le_from_distinct_below}
 use Rattle.dc_path.specs.Order.{path_lt, all_below, is_ascending}
@@ -16,7 +16,7 @@ use Rattle.dc_tree.specs.Same.{alike, counted}
 use Rattle.dc_tree.specs.Walking.{Matched, Unmatched, Stands, Turns, Parts, node_from, SameBelow, DiffersBelow}
 use Rattle.dc_tree.specs.declared.same.Pair.{Pair}
 use Rattle.dc_tree.proofs.Graph.{one_path, reached_live, reach_next, reach_nowhere, reach_on}
-use Rattle.dc_tree.proofs.Between.{PathOrder, earlier, this, later, path_order, shown_front, shown_name, shown_child}
+use Rattle.dc_tree.proofs.Between.{PathOrder, earlier, this, later, path_order, shown_front, shown_name, shown_child, lt_nil}
 use Rattle.dc_tree.proofs.Nexts.{all_push}
 
 -- ---- slots that are alike, or not
@@ -36,11 +36,6 @@ unfolding alike
 first_alone keep None h = absurd (h refl)
 first_alone keep (Some (Dir a)) h = refl
 first_alone keep (Some (File b a)) h = refl
-
--- nothing comes before the root
-nothing_before : (q : Names) → path_lt q [] ≡ true → ⊥
-nothing_before [] h = cc
-nothing_before (x ∷ q) h = cc
 
 module _ (keep : Kept) (a b : List Cell) (i j : ℕ) where
   -- where a path leads in the first part, it leads in the second, to a slot that matches
@@ -68,7 +63,7 @@ module _ (keep : Kept) (a b : List Cell) (i j : ℕ) where
   walk_starts at h t d = record {
     path = [];
     stands = record { here = ap (λ (k : ℕ). Some k) (sym h); there = ap (λ (k : ℕ). Some k) (sym t); deep = sym d; shown = refl };
-    done = λ q s l. absurd (nothing_before q l);
+    done = λ q s l. absurd (lt_nil q l);
     met = [];
     count = refl;
     rising = refl;
@@ -172,10 +167,6 @@ member_at q x false n e h c k w = k w
 members : (xs : List ℕ) (n : ℕ) → AllByRecursion (λ m. m < n) xs → (q : ℕ) → list_any (nat_eq q) xs ≡ true → q < n
 members [] n a q e = cc
 members (x ∷ xs) n a q e = member_at q x (nat_eq q x) n refl a.0 (list_any (nat_eq q) xs) (members xs n a.1 q) e
-
-and_parts : (b c : Bool) → (b && c) ≡ true → (b ≡ true) × (c ≡ true)
-and_parts true c h = (refl, h)
-and_parts false c h = cc
 
 differ : (k m : ℕ) → ((k ≡ m) ⊎ (k ≡ m → ⊥)) → (k ≡ m → ⊥) → nat_eq k m ≡ false
 differ k m (inl e) h = absurd (h e)

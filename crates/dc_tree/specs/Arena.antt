@@ -9,11 +9,11 @@ use Rattle.dc_attrs.specs.Attributes.{Attributes}
 use Rattle.dc_attrs.specs.Trees.{Node, Dir, File, Tree, seen_node}
 use Rattle.dc_attrs.specs.declared.shown.Seen.{Seen}
 use Rattle.dc_attrs.specs.declared.shown.Seen.TheVariants as seen_as
-use Rattle.dc_tree.specs.declared.arena.Slot.{Slot}
-use Rattle.dc_tree.specs.declared.arena.Slot.TheVariants as slot
-use Rattle.dc_tree.specs.declared.arena.Way.{Way}
-use Rattle.dc_tree.specs.declared.arena.Way.TheVariants as way_is
-use Rattle.dc_tree.specs.Fitting.{is_fitting}
+use Rattle.dc_tree.specs.declared.slots.Slot.{Slot}
+use Rattle.dc_tree.specs.declared.slots.Slot.TheVariants as slot
+use Rattle.dc_tree.specs.declared.slots.Way.{Way}
+use Rattle.dc_tree.specs.declared.slots.Way.TheVariants as way_is
+use Rattle.dc_attrs.specs.Fitting.{is_fitting}
 
 -- a slot's content: a directory, a file, or what was cut off and may be taken again
 pub data Cell : Type 0 where

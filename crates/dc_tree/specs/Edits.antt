@@ -1,9 +1,11 @@
 -- What a step changes in an arena.
-use Rattle.std.specs.Prelude.{◌≡◌, ℕ, List, Option, Some, None}
+use Rattle.std.specs.Prelude.{◌≡◌, ℕ, List, [], Option, Some, None}
 use Rattle.dc_attrs.specs.Trees.{Node}
-use Rattle.dc_tree.specs.declared.arena.Popped.{Popped}
-use Rattle.dc_tree.specs.declared.arena.Popped.TheVariants as popped
-use Rattle.dc_tree.specs.Arena.{Cell, cell_at, node_of, links_of, find, link, node, tree_of, IsArena}
+use Rattle.dc_tree.specs.declared.slots.Popped.{Popped}
+use Rattle.dc_tree.specs.declared.slots.Popped.TheVariants as popped
+use Rattle.dc_tree.specs.Homes.{home_at, Rehomed}
+use Rattle.dc_tree.specs.declared.homes.Home.{Home}
+use Rattle.dc_tree.specs.Arena.{Cell, GoneCell, cell_at, node_of, links_of, find, link, node, tree_of, IsArena}
 
 -- h is g with a link set
 pub record Relinked (g h : ℕ → List ℕ → Option ℕ) (at : ℕ) (name : List ℕ) (to : Option ℕ) : Type 0 where
@@ -66,3 +68,23 @@ pub record Keeps (old new : List Cell) : Type 0 where
   pub fewer : (k : ℕ) (x : List ℕ) (c : ℕ) → link new k x ≡ Some c → link old k x ≡ Some c
   pub arena : IsArena old → IsArena new
   pub tree : IsArena old → tree_of new ≡ tree_of old
+
+-- a link to a cell is set, and it is noted where that cell hangs
+pub record Hangs (old : List Cell) (was : List (Option Home)) (at : ℕ) (name : List ℕ) (place : ℕ) (new : List Cell) (now : List (Option Home)) : Type 0 where
+  pub set : Links old at name (Some place) new
+  pub home : Rehomed was now place (record { parent = at; name = name })
+
+-- so of a cell that holds nothing
+pub record Takes (old : List Cell) (was : List (Option Home)) (at : ℕ) (name : List ℕ) (place : ℕ) (new : List Cell) (now : List (Option Home)) : Type 0 where
+  pub blank : cell_at old place ≡ GoneCell []
+  pub hangs : Hangs old was at name place new now
+
+-- a new cell is hung, and it is noted where
+pub record Grows (old : List Cell) (was : List (Option Home)) (at : ℕ) (name : List ℕ) (to : Option Node) (new : List Cell) (now : List (Option Home)) : Type 0 where
+  pub adds : Adds old at name to new
+  pub home : (c : ℕ) → link new at name ≡ Some c → Rehomed was now c (record { parent = at; name = name })
+
+-- each cell and each note is as it was
+pub record Stays (old : List Cell) (was : List (Option Home)) (new : List Cell) (now : List (Option Home)) : Type 0 where
+  pub cells : cell_at new ≡ cell_at old
+  pub homes : home_at now ≡ home_at was

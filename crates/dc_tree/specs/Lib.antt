@@ -1,4 +1,3 @@
-pub mod Fitting
 pub mod Children
 pub mod Arena
 pub mod Places

@@ -4,6 +4,7 @@
 mod arena;
 mod homes;
 mod same;
+mod slots;
 mod tree;
 
 pub use tree::MemTree;

@@ -4,7 +4,7 @@
 //! hang to the next name. So the walk needs neither memory nor the stack, however deep the parts are.
 #![tactic(auto)]
 
-ghost use Rattle.std.specs.Prelude.{◌≡◌, ℕ, ◌+◌, ◌<◌, map, length, true, false, Some, None, nat_eq, ◌||◌};
+ghost use Rattle.std.specs.Prelude.{◌≡◌, ℕ, ◌+◌, ◌<◌, map, length, true, false, Some, nat_eq, ◌||◌};
 ghost use Rattle.std.specs.Option.{option_copied, option_eq, is_some};
 ghost use Rattle.std.specs.Cmp.Lexicographic.{pointwise};
 ghost use Rattle.dc_path.specs.Names.{same_name};
@@ -17,8 +17,8 @@ ghost use Rattle.dc_tree.specs.Homes.{AreHomes};
 ghost use Rattle.dc_tree.specs.Same.{alike, counted};
 ghost use Rattle.dc_tree.specs.Walking.{links_in, comes_after, is_next, FitsFirst, AreKnown, IsUnknown, Matched, Unmatched, FitsNext, SameBelow, DiffersBelow, Stands, FitsTurn, IsNoDeeper};
 
-use crate::arena::{Slot, attrs_at, bytes_at};
 use crate::homes::{Home, home_of};
+use crate::slots::{Slot, attrs_at, bytes_at};
 use dc_attrs::{Attrs, Keep, same_kept};
 use dc_path::Name;
 use std::collections::BTreeMap;
