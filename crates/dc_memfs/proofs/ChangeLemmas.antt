@@ -1,6 +1,6 @@
 -- Changes of trees, as stores make them, and the bytes of temporaries.
-use Rattle.std.proofs.Common.{◌≡◌, ℕ, Bool, true, false, cond, List, [], ◌∷◌, ◌++◌, Option, Some, None, Result, Ok, Err, OnOk, refl, sym, ◌∙◌, ap, subst, append_assoc}
-use Rattle.std.specs.Option.{option_map}
+use Rattle.std.proofs.Common.{◌≡◌, inl, inr, ℕ, Bool, true, false, cond, List, [], ◌∷◌, ◌++◌, Option, Some, None, Result, Ok, Err, OnOk, refl, sym, ◌∙◌, ap, subst, append_assoc}
+use Rattle.std.specs.Option.{option_map, is_none}
 use Rattle.std.proofs.Math.Path.{fun_ext}
 use Rattle.std.proofs.lemmas.List.{append-nil}
 use Rattle.dc_path.specs.Paths.{Names, same_path}
@@ -9,7 +9,13 @@ use Rattle.dc_attrs.specs.Attributes.{default_dir}
 use Rattle.dc_attrs.specs.Trees.{Node, Dir, Tree, with_node, updated, made}
 use Rattle.dc_attrs.specs.Refusals.{Refuses, refused_dir, refused_new}
 use Rattle.dc_attrs.specs.declared.refusals.TreeError.{TreeError}
+use Rattle.dc_fs.specs.Answers.{WasOrDone, Changes}
 use Rattle.dc_fs.specs.Temporaries.{all_told}
+use Rattle.dc_fs.specs.declared.errors.WriteError.{WriteError}
+use Rattle.dc_fs.specs.declared.errors.WriteError.TheVariants as write_error
+use Rattle.dc_memfs.specs.declared.calls.Fate.{Fate}
+use Rattle.dc_memfs.specs.declared.calls.Fate.TheVariants.{Goes, Fails, FailsDone}
+use Rattle.dc_memfs.specs.States.{after_fault, ChangesBy}
 
 -- ---- a directory is made where nothing stands
 nothing_there : (o : Option Node) (why : Option TreeError) → refused_new o why ≡ None → o ≡ None
@@ -36,3 +42,24 @@ pub all_told-push : (parts : List (Option (List ℕ))) (b y : List ℕ) → all_
 all_told-push [] b y h = let e : [] ≡ b = cc in rw (append-nil, ← e) refl
 all_told-push (None ∷ parts) b y h = absurd (cc)
 all_told-push (Some x ∷ parts) b y h = told_before x y b (all_told parts) (all_told (parts ++ Some y ∷ [])) h (λ c e. all_told-push parts c y e)
+
+-- ---- a change by the fate of its call is a change as stores tell it
+done_or_not : (b : Bool) (change : Tree → Tree) (old new : Tree) → new ≡ cond b (change old) old → WasOrDone (Some old) (Some new) change
+done_or_not true change old new h = inr (ap (λ (t : Tree). Some t) h)
+done_or_not false change old new h = inl (ap (λ (t : Tree). Some t) h)
+
+was_or_done : (fate : Fate) (why : Option TreeError) (change : Tree → Tree) (old new : Tree) → new ≡ after_fault fate why change old → WasOrDone (Some old) (Some new) change
+was_or_done Goes why change old new h = done_or_not false change old new h
+was_or_done Fails why change old new h = done_or_not false change old new h
+was_or_done FailsDone why change old new h = done_or_not (is_none why) change old new h
+
+pub tells_change : {X : Type 0} (fate : Fate) (why : Option TreeError) (change : Tree → Tree) (old new : Tree) (r : Result X WriteError) → ChangesBy fate why change old new r → Changes change (Some old) (Some new) r
+tells_change fate why change old new (Ok x) h = ap (λ (t : Tree). Some t) h.done
+tells_change fate why change old new (Err write_error.Fault) h = was_or_done fate why change old new h.stopped
+tells_change fate why change old new (Err write_error.Missing) h = ap (λ (t : Tree). Some t) h.stopped
+tells_change fate why change old new (Err write_error.NotDir) h = ap (λ (t : Tree). Some t) h.stopped
+tells_change fate why change old new (Err write_error.Exists) h = ap (λ (t : Tree). Some t) h.stopped
+tells_change fate why change old new (Err write_error.IsDir) h = ap (λ (t : Tree). Some t) h.stopped
+tells_change fate why change old new (Err write_error.IntoItself) h = ap (λ (t : Tree). Some t) h.stopped
+tells_change fate why change old new (Err write_error.Root) h = ap (λ (t : Tree). Some t) h.stopped
+tells_change fate why change old new (Err write_error.Memory) h = ap (λ (t : Tree). Some t) h.stopped

@@ -1,2 +1,3 @@
 pub mod LookLemmas
 pub mod ChangeLemmas
+pub mod SteadyLemmas

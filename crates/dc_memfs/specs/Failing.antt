@@ -1,6 +1,6 @@
 -- Which calls on an object in memory fail.
-use Rattle.std.specs.Prelude.{ℕ, Bool, true, false, cond, ◌&&◌, ◌||◌, nat_le, nat_lt, List, find, Option, Some, None}
-use Rattle.dc_fs.specs.Causes.{raised}
+use Rattle.std.specs.Prelude.{◌≡◌, ◌↔◌, ℕ, Bool, true, false, cond, ◌&&◌, ◌||◌, nat_le, nat_lt, List, [], ◌∷◌, find, Option, Some, None, Result, IsErrOf, IsTrue}
+use Rattle.dc_fs.specs.Causes.{raised, HasCause, steady_at}
 use Rattle.dc_memfs.specs.declared.fails.Which.{Which}
 use Rattle.dc_memfs.specs.declared.fails.Which.TheVariants as which_is
 use Rattle.dc_memfs.specs.declared.fails.Fail.{Fail}
@@ -91,3 +91,16 @@ fails_next list which calls = fails (next_fate list which calls)
 -- the calls after one more, which is a fault where it fails
 abbrev pub after_call : List Fail → Which → Calls → Calls
 after_call list which calls = record { counts = counted_call which calls.counts; faults = cond (fails_next list which calls) (raised calls.faults) calls.faults }
+
+-- no call fails by the list
+abbrev pub is_steady : List Fail → Bool
+is_steady [] = true
+is_steady (fail ∷ list) = false
+
+-- a call by the list of its object: the answer is the fault exactly where the list names the call, its cause is counted, and
+-- a steady object answers none
+pub record FailsByList {T E : Type 0} (list : List Fail) (which : Which) (steady : Bool) (old new : Calls) (result : Result T E) (fault : E) : Type 0 where
+  pub named : IsErrOf result fault ↔ IsTrue (fails_next list which old)
+  pub cause : HasCause old.faults new.faults result fault
+  pub calm : steady_at steady new.faults ≡ steady_at steady old.faults
+  pub never : steady ≡ true → IsErrOf result fault → ⊥

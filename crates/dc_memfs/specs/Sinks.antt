@@ -14,6 +14,11 @@ abbrev pub is_due : Option ℕ → ℕ → Bool
 is_due None number = false
 is_due (Some first) number = nat_le first number
 
+-- the most bytes that are taken in all, where no write is to fail
+abbrev pub limit_of : Option ℕ → Option ℕ
+limit_of None = Some 1048576
+limit_of (Some first) = None
+
 -- the next write fails: it is to fail, or the bytes of both are more than 1,048,576
 abbrev pub write_fails : List ℕ → Taking → Bool
 write_fails piece s = is_due s.fail_at (raised s.writes) || nat_lt 1048576 (length s.taken + length piece)

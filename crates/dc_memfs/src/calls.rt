@@ -1,10 +1,10 @@
 //! Calls on an object in memory: each is counted, and the list of the object decides whether it fails.
 #![tactic(auto)]
 
-ghost use Rattle.std.specs.Prelude.{◌≡◌, ◌≤◌, Some, find, IsTrue};
+ghost use Rattle.std.specs.Prelude.{◌≡◌, ◌≤◌, ◌&&◌, Bool, true, false, Some, find, IsTrue};
 ghost use Rattle.std.specs.Option.{option_copied};
-ghost use Rattle.dc_fs.specs.Causes.{Rose};
-ghost use Rattle.dc_memfs.specs.Failing.{none_made, no_calls, number_of, counted_call, is_nth, is_later, is_named, fate_by, next_fate, fails, fails_next, after_call};
+ghost use Rattle.dc_fs.specs.Causes.{Rose, steady_at};
+ghost use Rattle.dc_memfs.specs.Failing.{none_made, no_calls, number_of, counted_call, is_nth, is_later, is_named, fate_by, next_fate, fails, fails_next, after_call, is_steady};
 
 use crate::{Fail, Fails, Which};
 
@@ -21,17 +21,17 @@ pub struct Counts {
     pub list: u64,
     /// Calls of `Store::read_at`.
     pub read: u64,
-    /// Calls for a checksum.
+    /// Calls of `Store::checksum`.
     pub checksum: u64,
     /// Calls of `Target::open_desk`.
     pub open_desk: u64,
     /// Calls of `Target::make_dir`.
     pub make_dir: u64,
-    /// Removals.
+    /// Calls of `Target::remove`.
     pub remove: u64,
-    /// Moves.
+    /// Calls of `Target::rename`.
     pub rename: u64,
-    /// Settings of attributes.
+    /// Calls of `Target::set_attrs`.
     pub set_attrs: u64,
     /// Calls of `Target::land`.
     pub land: u64,
@@ -41,7 +41,7 @@ pub struct Counts {
     pub create: u64,
     /// Calls of `Desk::append`.
     pub append: u64,
-    /// Calls for a digest.
+    /// Calls of `Desk::digest`.
     pub digest: u64,
     /// Calls of `Desk::seal`.
     pub seal: u64,
@@ -189,7 +189,7 @@ pub enum Fate {
 
 impl Fate {
     // Whether the call fails.
-    fn fails(self) -> bool
+    pub fn fails(self) -> bool
         ensures { result ≡ fails self }
     {
         match self {
@@ -270,11 +270,15 @@ impl Calls {
     }
 
     // Counts a call of a kind, and its fault if it fails, and answers what becomes of it by the list.
+    #[tactic(auto, using(crate::proofs::SteadyLemmas::never_fails, crate::proofs::SteadyLemmas::stays_steady, crate::proofs::SteadyLemmas::both_steady))]
     pub fn count(&mut self, list: &Fails, which: Which) -> Fate
         ensures fate { result ≡ next_fate list.now which self.old }
         ensures after { self.new ≡ after_call list.now which self.old }
         ensures later { self.old.faults ≤ self.new.faults }
         ensures rose { IsTrue (fails result) → Rose self.old.faults self.new.faults }
+        ensures calm { steady_at (is_steady list.now) self.new.faults ≡ steady_at (is_steady list.now) self.old.faults }
+        ensures both { (others : Bool) → steady_at (is_steady list.now && others) self.new.faults ≡ steady_at (is_steady list.now && others) self.old.faults }
+        ensures never { is_steady list.now ≡ true → fails result ≡ false }
     {
         let now = self.counts.after(which);
         let fate = decide(list.as_slice(), &self.counts, &now);
@@ -291,6 +295,9 @@ impl Calls {
         ensures after { self.new ≡ after_call list.now which self.old }
         ensures later { self.old.faults ≤ self.new.faults }
         ensures rose { IsTrue result → Rose self.old.faults self.new.faults }
+        ensures calm { steady_at (is_steady list.now) self.new.faults ≡ steady_at (is_steady list.now) self.old.faults }
+        ensures both { (others : Bool) → steady_at (is_steady list.now && others) self.new.faults ≡ steady_at (is_steady list.now && others) self.old.faults }
+        ensures never { is_steady list.now ≡ true → result ≡ false }
     {
         self.count(list, which).fails()
     }

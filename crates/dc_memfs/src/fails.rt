@@ -7,7 +7,8 @@ use dc_path::{List, OutOfMemory};
 use std::alloc::Global;
 use std::marker::Model;
 
-/// A kind of call. `Target::rejoin_desk` has none: it cannot fail, and is not counted.
+/// A kind of call. `Source::fork`, `Source::rejoin` and `Target::rejoin_desk` have none: they have no fault, and are not
+/// counted.
 #[derive(Clone, Copy, Debug, PartialEq, Eq)]
 pub enum Which {
     /// Each call, whatever its kind.
@@ -20,17 +21,17 @@ pub enum Which {
     List,
     /// `Store::read_at`.
     Read,
-    /// A checksum of a file in a store.
+    /// `Store::checksum`.
     Checksum,
     /// `Target::open_desk`.
     OpenDesk,
     /// `Target::make_dir`.
     MakeDir,
-    /// A removal in a target.
+    /// `Target::remove`.
     Remove,
-    /// A move in a target.
+    /// `Target::rename`.
     Rename,
-    /// A setting of attributes in a target.
+    /// `Target::set_attrs`.
     SetAttrs,
     /// `Target::land`.
     Land,
@@ -40,7 +41,7 @@ pub enum Which {
     Create,
     /// `Desk::append`.
     Append,
-    /// A digest of the temporary at work on a desk.
+    /// `Desk::digest`.
     Digest,
     /// `Desk::seal`.
     Seal,
@@ -53,8 +54,8 @@ pub struct Fail {
     pub which: Which,
     /// Which call of that kind, counted from 1; 0 names none.
     pub nth: u64,
-    /// Whether it makes its change before it fails, where the tree allows it: so do `Target::make_dir`, a removal, a move
-    /// and a setting of attributes. Every other call fails without a change.
+    /// Whether it makes its change before it fails, where the tree allows it: so do `Target::make_dir`, `Target::remove`,
+    /// `Target::rename` and `Target::set_attrs`. Every other call fails without a change.
     pub done: bool,
     /// Whether every later call on the object fails too, without its change.
     pub then_all: bool,

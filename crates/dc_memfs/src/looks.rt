@@ -11,11 +11,13 @@ ghost use Rattle.dc_attrs.specs.declared.shown.Seen.{Seen};
 ghost use Rattle.dc_tree.specs.Arena.{tree_of};
 ghost use Rattle.dc_fs.specs.Answers.{ReadAnswers, refused_status, refused_list, refused_read};
 ghost use Rattle.dc_fs.specs.Looks.{IsStatusOf, fits_kind, is_shown, AreNames, IsRead};
+ghost use Rattle.dc_fs.specs.Digests.{IsChecksum};
 
 use dc_attrs::{Attrs, Seen};
 use dc_fs::{ReadError, Status};
 use dc_path::{List, Name, OutOfMemory, Path};
 use dc_tree::MemTree;
+use md5::{Digest, Md5};
 use std::alloc::Global;
 
 // A copy of the attributes of what stands at a path.
@@ -147,5 +149,39 @@ pub fn read_at(tree: &MemTree, path: &Path, at: u64, into: &mut [u8]) -> Result<
         Seen::NotDir => Err(ReadError::NotDir),
         Seen::Dir => Err(ReadError::IsDir),
         Seen::File { .. } => read_file(tree, path, at, into),
+    }
+}
+
+// The digest of the first bytes of a file.
+fn digest_file(tree: &MemTree, path: &Path, length: u64) -> Result<[u8; 16], ReadError>
+    requires { IsSome (bytes_of (tree_of tree.now path.now)) }
+    ensures value { IfOk result (IsChecksum length (tree_of tree.now path.now)) }
+    ensures answers { ReadAnswers (refused_read length (seen_node (tree_of tree.now path.now))) result }
+    ensures memory { IfErr result (λ e. e ≢ ReadError.Memory) }
+    ensures no_fault { IfErr result (λ e. e ≢ ReadError.Fault) }
+{
+    match tree.bytes(path) {
+        Some(bytes) => {
+            if length > bytes.len() as u64 {
+                return Err(ReadError::Short);
+            }
+            Ok(Md5::digest(&bytes[..length as usize]))
+        }
+        None => unreachable!(),
+    }
+}
+
+// The digest of the first bytes of what must be a file.
+pub fn checksum(tree: &MemTree, path: &Path, length: u64) -> Result<[u8; 16], ReadError>
+    ensures value { IfOk result (IsChecksum length (tree_of tree.now path.now)) }
+    ensures answers { ReadAnswers (refused_read length (seen (tree_of tree.now) path.now)) result }
+    ensures memory { IfErr result (λ e. e ≢ ReadError.Memory) }
+    ensures no_fault { IfErr result (λ e. e ≢ ReadError.Fault) }
+{
+    match tree.kind(path) {
+        Seen::Missing => Err(ReadError::Missing),
+        Seen::NotDir => Err(ReadError::NotDir),
+        Seen::Dir => Err(ReadError::IsDir),
+        Seen::File { .. } => digest_file(tree, path, length),
     }
 }

@@ -1,9 +1,9 @@
 //! Sinks in memory.
 #![tactic(auto)]
 
-ghost use Rattle.std.specs.Prelude.{◌≡◌, false, [], Some, IfOk, IsTrue, OnOk, OnErr};
+ghost use Rattle.std.specs.Prelude.{◌≡◌, ◌<◌, ◌+◌, length, IfSome, false, [], Some, IfOk, IsTrue, OnOk, OnErr};
 ghost use Rattle.dc_fs.specs.Causes.{HasCause};
-ghost use Rattle.dc_memfs.specs.Sinks.{is_due, write_fails, with_piece, with_fault};
+ghost use Rattle.dc_memfs.specs.Sinks.{is_due, write_fails, with_piece, with_fault, limit_of};
 
 use dc_fs::{Sink, SinkFault};
 use dc_path::OutOfMemory;
@@ -40,6 +40,7 @@ impl MemSink {
         ensures state { IfOk result (λ sink. sink ≡ record { taken = []; fail_at = fail_at; writes = 0; faults = 0 }) }
         ensures bytes { IfOk result (λ sink. ⟦<MemSink as Sink>⟧.bytes sink ≡ Some []) }
         ensures faults { IfOk result (λ sink. ⟦<MemSink as Sink>⟧.faults sink ≡ 0) }
+        ensures limit { IfOk result (λ sink. ⟦<MemSink as Sink>⟧.limit sink ≡ limit_of fail_at) }
     {
         let bytes = Vec::with_capacity(alloc, MAX_SINK_BYTES)?;
         Ok(MemSink {
@@ -74,11 +75,14 @@ impl Sink for MemSink {
 
     ghost faults = { λ sink. sink.faults };
 
+    ghost limit = { λ sink. limit_of sink.fail_at };
+
     fn write(&mut self, piece: &[u8]) -> Result<(), SinkFault>
         ensures taken { OnOk result (self.new ≡ with_piece piece.now self.old) }
         ensures stopped { OnErr result (self.new ≡ with_fault self.old) }
         ensures ok { OnOk result (write_fails piece.now self.old ≡ false) }
         ensures err { OnErr result (IsTrue (write_fails piece.now self.old)) }
+        ensures past { OnErr result (IfSome (limit_of self.old.fail_at) (λ most. most < length self.old.taken + length piece.now)) }
         ensures cause { HasCause self.old.faults self.new.faults result (record {}) }
     {
         self.writes = self.writes.saturating_add(1);
