@@ -27,7 +27,7 @@ pub contents_start : (told : Option Tree) (files : List Content) → files ≡ [
 contents_start None files e = tt
 contents_start (Some s) files e = e
 
-one_file : (item : Item) → item.dir ≡ false → filter is_file_item (item ∷ []) ≡ item ∷ []
+pub one_file : (item : Item) → item.dir ≡ false → filter is_file_item (item ∷ []) ≡ item ∷ []
 one_file item e = ap (λ b. cond (not b) (item ∷ []) []) e
 
 contents_more : (tells : Bool) (s : Tree) (root : Names) (items : List Item) (i : ℕ) (item : Item) → item ≡ get_or items i item → i < length items → item.dir ≡ false →

@@ -15,7 +15,8 @@ use Rattle.dc_attrs.specs.Attributes.{default_file, default_dir}
 use Rattle.dc_attrs.specs.Trees.{Dir, File, Tree}
 use Rattle.dc_cli.specs.Drills.{drill_source, drill_target, drill_tree, dir_path, file_path, file_bytes, file_or}
 use Rattle.dc_cli.specs.DrillSteps.{way_tree, with_dirs, with_files}
-use Rattle.dc_cli.specs.Words.{Asks, is_option}
+use Rattle.dc_cli.specs.Words.{Asks}
+use Rattle.dc_path.specs.Words.{is_dashed}
 
 -- ---- paths
 ascii_name : (bs : List ℕ) → IsAscii bs → is_utf8 bs ≡ true
@@ -43,14 +44,14 @@ source_reads = text_reads_back drill_source (record { named = rw (src_name, snap
 target_reads : path_from (codes "/dst") ≡ Ok drill_target
 target_reads = text_reads_back drill_target (record { named = rw dst_name refl; few = omega arith; short = omega arith })
 
-asks_two : (a b : List ℕ) (p q : Names) → is_option a ≡ false → is_option b ≡ false → path_from a ≡ Ok p → path_from b ≡ Ok q → Asks (a ∷ b ∷ []) p q
+asks_two : (a b : List ℕ) (p q : Names) → is_dashed a ≡ false → is_dashed b ≡ false → path_from a ≡ Ok p → path_from b ≡ Ok q → Asks (a ∷ b ∷ []) p q
 asks_two a b p q i j e f = rw (i, j, e, f) refl
 
 pub drill_asks : Asks (codes "/src/.snapshot/s1" ∷ codes "/dst" ∷ []) drill_source drill_target
 drill_asks = asks_two (codes "/src/.snapshot/s1") (codes "/dst") drill_source drill_target refl refl source_reads target_reads
 
 -- ---- directories
-dirs_more : (f : ℕ → Names) (n : ℕ) → map f (range_with_len 0 (suc n)) ≡ map f (range_with_len 0 n) ++ f n ∷ []
+pub dirs_more : (f : ℕ → Names) (n : ℕ) → map f (range_with_len 0 (suc n)) ≡ map f (range_with_len 0 n) ++ f n ∷ []
 dirs_more f n = ap (λ (m : ℕ). map f (range_with_len 0 m)) (sym (add-one n)) ∙ map-range_with_len_more f 0 n n (omega arith)
 
 pub dir_is : (dirs : List Names) (m k : ℕ) (dir : Names) → dirs ≡ map dir_path (range_with_len 0 m) → k < length dirs → dir ≡ get_or dirs k dir → dir ≡ dir_path k

@@ -5,11 +5,11 @@ use Rattle.std.proofs.lemmas.List.{append-nil, map-append}
 use Rattle.std.proofs.lemmas.List.Folds.{list_any-append}
 use Rattle.std.specs.Option.{option_map, is_some}
 use Rattle.std.specs.List.{list_all}
-use Rattle.dc_path.specs.Found.{found}
+use Rattle.dc_path.specs.Found.{found, has_path}
 use Rattle.dc_path.specs.Names.{same_name}
 use Rattle.dc_path.specs.Order.{is_ascending, path_lt}
-use Rattle.dc_path.specs.Paths.{Names, IsPath, same_path, front_of, is_root}
-use Rattle.dc_path.proofs.FoundLemmas.{or_found, found-before}
+use Rattle.dc_path.specs.Paths.{Names, IsPath, same_path, front_of, is_root, fits}
+use Rattle.dc_path.proofs.FoundLemmas.{or_found, found-before, kept, ascending-filter, found-filter, found_passes}
 use Rattle.dc_path.proofs.Joins.{length-joined-append}
 use Rattle.dc_path.proofs.OrderLemmas.{path_lt-apart, path_lt-child, path_lt-trans}
 use Rattle.dc_path.proofs.PathLemmas.{same_path-true, same_path-refl, front_of-append, cut-append, Last, empty, ended, last_case}
@@ -20,14 +20,15 @@ use Rattle.dc_attrs.specs.declared.refusals.TreeError.{TreeError}
 use Rattle.dc_attrs.specs.declared.shown.Seen.{Seen}
 use Rattle.dc_attrs.specs.declared.shown.Seen.TheVariants as seen_as
 use Rattle.dc_attrs.proofs.TreeLemmas.{nothing_below, seen_from-there}
-use Rattle.dc_cli.specs.Items.{AreItems, fits, fits_under, item_of, rel_of}
+use Rattle.dc_cli.specs.Items.{AreItems, fits_under, item_of, rel_of}
 use Rattle.dc_cli.specs.Listed.{listed}
 use Rattle.dc_cli.specs.Makeable.{is_hindrance, CanMakeAt, CanMake, CanMakeAll, CanLandAll}
 use Rattle.dc_cli.specs.Phases.{ways, folder_places, dir_places, place_of, all_made, landed_as, is_dir_item, is_file_item, content_of, contents_of, file_bytes}
 use Rattle.dc_cli.specs.declared.listing.Item.{Item}
 use Rattle.dc_cli.proofs.CommitLemmas.{all_made-append}
-use Rattle.dc_cli.proofs.PartLemmas.{both_first, both_second, both_true, kept, ascending-filter, found-filter}
-use Rattle.dc_cli.proofs.ResultLemmas.{has_path, made_at, has_path-append, way_at, folders_below}
+use Rattle.dc_cli.proofs.ResultLemmas.{made_at, has_path-append, way_at, folders_below}
+use Rattle.std.specs.Cmp.{first_so, second_so}
+use Rattle.std.proofs.lemmas.Bool.{and_from, or_right}
 
 -- ---- a directory more in a tree
 abbrev NoFile : Option Node → Type 0
@@ -152,17 +153,17 @@ found-append (x ∷ xs) ys q = one (same_path (rel_of x) q) (found rel_of xs q) 
 
 ascending_end : (xs ys : List Item) → is_ascending (map rel_of (xs ++ ys)) ≡ true → is_ascending (map rel_of ys) ≡ true
 ascending_end [] ys a = a
-ascending_end (x ∷ xs) ys a = ascending_end xs ys (both_second _ _ a)
+ascending_end (x ∷ xs) ys a = ascending_end xs ys (second_so _ _ a)
 
 all_above : (xs : List Item) (p r : Names) → path_lt r p ≡ true → list_all (path_lt p) (map rel_of xs) ≡ true → list_all (path_lt r) (map rel_of xs) ≡ true
 all_above [] p r h a = refl
-all_above (x ∷ xs) p r h a = both_true _ _ (path_lt-trans r p (rel_of x) h (both_first _ _ a)) (all_above xs p r h (both_second _ _ a))
+all_above (x ∷ xs) p r h a = and_from _ _ (path_lt-trans r p (rel_of x) h (first_so _ _ a)) (all_above xs p r h (second_so _ _ a))
 
 -- what comes before an item is found before it
 found_earlier : (before rest : List Item) (x : Item) (r : Names) → is_ascending (map rel_of (before ++ x ∷ rest)) ≡ true → path_lt r (rel_of x) ≡ true → found rel_of (before ++ x ∷ rest) r ≡ found rel_of before r
 found_earlier before rest x r a h =
     let end = ascending_end before (x ∷ rest) a in
-    let none : found rel_of (x ∷ rest) r ≡ None = found-before rel_of (x ∷ rest) r (both_true _ _ h (all_above rest (rel_of x) r h (both_first _ _ end))) in
+    let none : found rel_of (x ∷ rest) r ≡ None = found-before rel_of (x ∷ rest) r (and_from _ _ h (all_above rest (rel_of x) r h (first_so _ _ end))) in
     found-append before (x ∷ rest) r ∙ ap (or_found (found rel_of before r)) none ∙ no_other (found rel_of before r)
   where
     no_other : (o : Option Item) → or_found o None ≡ o
@@ -170,8 +171,8 @@ found_earlier before rest x r a h =
     no_other (Some y) = refl
 
 above_at : (before rest : List Item) (x : Item) (p : Names) → list_all (path_lt p) (map rel_of (before ++ x ∷ rest)) ≡ true → path_lt p (rel_of x) ≡ true
-above_at [] rest x p a = both_first _ _ a
-above_at (y ∷ before) rest x p a = above_at before rest x p (both_second _ _ a)
+above_at [] rest x p a = first_so _ _ a
+above_at (y ∷ before) rest x p a = above_at before rest x p (second_so _ _ a)
 
 not_same : (p q : Names) (b : Bool) → same_path p q ≡ b → path_lt p q ≡ true → b ≡ false
 not_same p q false e h = refl
@@ -181,16 +182,8 @@ not_same p q true e h = let f : same_path q p ≡ true = subst (λ (r : Names). 
 found_here : (before rest : List Item) (x : Item) → is_ascending (map rel_of (before ++ x ∷ rest)) ≡ true → found rel_of (before ++ x ∷ rest) (rel_of x) ≡ Some x
 found_here [] rest x a = ap (λ b. cond b (Some x) (found rel_of rest (rel_of x))) (same_path-refl (rel_of x))
 found_here (y ∷ before) rest x a =
-    ap (λ b. cond b (Some y) (found rel_of (before ++ x ∷ rest) (rel_of x))) (not_same (rel_of y) (rel_of x) (same_path (rel_of y) (rel_of x)) refl (above_at before rest x (rel_of y) (both_first _ _ a)))
-    ∙ found_here before rest x (both_second _ _ a)
-
-passes_one : (test : Item → Bool) (y x : Item) (o : Option Item) (b : Bool) → test y ≡ true → (o ≡ Some x → test x ≡ true) → cond b (Some y) o ≡ Some x → test x ≡ true
-passes_one test y x o true h ih e = let i : y ≡ x = cc in subst (λ (z : Item). test z ≡ true) i h
-passes_one test y x o false h ih e = ih e
-
-passes_at : (test : Item → Bool) (xs : List Item) (q : Names) (x : Item) → list_all test xs ≡ true → found rel_of xs q ≡ Some x → test x ≡ true
-passes_at test [] q x h e = cc
-passes_at test (y ∷ xs) q x h e = passes_one test y x (found rel_of xs q) (same_path (rel_of y) q) (both_first _ _ h) (passes_at test xs q x (both_second _ _ h)) e
+    ap (λ b. cond b (Some y) (found rel_of (before ++ x ∷ rest) (rel_of x))) (not_same (rel_of y) (rel_of x) (same_path (rel_of y) (rel_of x)) refl (above_at before rest x (rel_of y) (first_so _ _ a)))
+    ∙ found_here before rest x (second_so _ _ a)
 
 kept_is : (test : Item → Bool) (o : Option Item) (x : Item) → kept test o ≡ Some x → (o ≡ Some x) × (test x ≡ true)
 kept_is test None x h = cc
@@ -290,7 +283,7 @@ folder_in s root d items t v a l f dir clear before rest x e =
     let ascending : is_ascending (map rel_of (before ++ x ∷ rest)) ≡ true = subst (λ (xs : List Item). is_ascending (map rel_of xs) ≡ true) e (ascending-filter rel_of is_dir_item items a) in
     let earlier : path_lt u.front (rel_of x) ≡ true = subst (λ (q : Names). path_lt u.front q ≡ true) (sym u.is) (path_lt-child u.front u.name) in
     record {
-      within = passes_at (fits_under d) items (rel_of x) x f i.found_is;
+      within = found_passes rel_of (fits_under d) items (rel_of x) x f i.found_is;
       parent = subst (IsDirAt (all_made (map (place_of d) before) t)) (sym (ap (λ (q : Names). front_of (d ++ q)) u.is ∙ front_under d u.front u.name)) (⊎_elim
           (λ z. subst (IsDirAt (all_made (map (place_of d) before) t)) (sym (ap (λ (r : Names). d ++ r) z ∙ append-nil d)) (all_still (map (place_of d) before) t d dir))
           (λ k. dir_by_place (map (place_of d) before) t (d ++ u.front)
@@ -403,10 +396,6 @@ no_place false c k e f = f
 target_place : (b k : Bool) → b ≡ false → ((not b && true) || k) ≡ true
 target_place b k e = rw e refl
 
-second_true : (b k : Bool) → k ≡ true → (b || k) ≡ true
-second_true true k h = refl
-second_true false k h = h
-
 lands_at : (s : Tree) (root d : Names) (items : List Item) (t : Tree) → IsTree s → IsTree t → seen t d ≡ seen_as.Missing → is_ascending (map rel_of items) ≡ true → AreItems (listed s root) items → list_all (fits_under d) items ≡ true →
     (before rest : List Item) (x : Item) → filter is_file_item items ≡ before ++ x ∷ rest → LandsAt (all_made (dir_places d items) t) d x
 lands_at s root d items t vs v m a l fs before rest x e =
@@ -419,13 +408,13 @@ lands_at s root d items t vs v m a l fs before rest x e =
     made_at (dir_places d items) t (d ++ rel_of x) ∙ ap (λ b. cond b (made (t (d ++ rel_of x))) (t (d ++ rel_of x))) free ∙ absent t d (rel_of x) v m in
     let above : has_path (dir_places d items) (d ++ u.front) ≡ true = ⊎_elim
     (λ z. subst (λ (r : Names). has_path (dir_places d items) (d ++ r) ≡ true) (sym z) (places_at d items [] a ∙ target_place (is_root d) (is_some (kept is_dir_item (found rel_of items []))) (missing_not_root t d v m)))
-    (λ k. places_at d items u.front a ∙ second_true (not (is_root d) && is_root u.front) (is_some (kept is_dir_item (found rel_of items u.front))) (ap is_some (sym (found-filter rel_of is_dir_item items u.front a)) ∙ k))
+    (λ k. places_at d items u.front a ∙ or_right (not (is_root d) && is_root u.front) (is_some (kept is_dir_item (found rel_of items u.front))) (ap is_some (sym (found-filter rel_of is_dir_item items u.front a)) ∙ k))
     u.parent in
     record {
       no_dir = subst NoDir (sym nothing) tt;
       parent = subst (IsDirAt (all_made (dir_places d items) t)) (sym (ap (λ (q : Names). front_of (d ++ q)) u.is ∙ front_under d u.front u.name))
           (dir_by_place (dir_places d items) t (d ++ u.front) above (subst NoFile (sym (absent t d u.front v m)) tt));
-      within = passes_at (fits_under d) items (rel_of x) x fs i.found_is;
+      within = found_passes rel_of (fits_under d) items (rel_of x) x fs i.found_is;
     }
 
 -- once the directories are made, the listed files can land

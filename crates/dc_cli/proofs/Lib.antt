@@ -6,8 +6,8 @@ pub mod LandLemmas
 pub mod ListingLemmas
 pub mod ListingStops
 pub mod OutputLemmas
-pub mod PartLemmas
 pub mod EffectLemmas
+pub mod UniqueLemmas
 pub mod SurveyLemmas
 pub mod ResultLemmas
 pub mod RunLemmas
@@ -18,3 +18,6 @@ pub mod DrillLemmas
 pub mod DenialLemmas
 pub mod StopLemmas
 pub mod PartlyLemmas
+mod SizeLemmas
+mod CalmLemmas
+mod DrillListing

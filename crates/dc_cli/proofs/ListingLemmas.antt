@@ -11,17 +11,17 @@ use Rattle.std.specs.Ordering.{nat_cmp, is_lt}
 use Rattle.dc_path.specs.Found.{found}
 use Rattle.dc_path.specs.Names.{same_name}
 use Rattle.dc_path.specs.Order.{name_lt, all_below, is_ascending}
-use Rattle.dc_path.specs.Paths.{Names, cut, at_cut, same_path}
+use Rattle.dc_path.specs.Paths.{Names, cut, at_cut, same_path, fits}
 use Rattle.dc_path.proofs.FoundLemmas.{or_found, found-push}
 use Rattle.dc_path.proofs.OrderLemmas.{name_lt-cmp, is_after-child, is_after-sibling, is_ascending-push, all_below-push_after, all_below-push_child}
-use Rattle.dc_path.proofs.PathLemmas.{NameCase, same, other, name_case, same_name-refl, same_path-cut, same_path-not_below, same_path-true, append-cut, then_cut, cut-child}
-use Rattle.dc_attrs.specs.Trees.{Node, Dir, File, Tree, IsTree, IsDirAt, is_hidden, snapshot, seen, seen_node}
+use Rattle.dc_path.proofs.PathLemmas.{NameCase, same, other, name_case, same_name-refl, same_path-cut, same_path-not_below, same_path-true, append-cut, then_cut, cut-child, same_name-flip}
+use Rattle.dc_attrs.specs.Trees.{Node, Dir, File, Tree, IsTree, IsDirAt, is_hidden, snapshot, seen, seen_node, is_dir}
 use Rattle.dc_attrs.specs.declared.shown.Seen.{Seen}
 use Rattle.dc_attrs.specs.declared.shown.Seen.TheVariants as seen_as
 use Rattle.dc_attrs.proofs.TreeLemmas.{seen_from-Dir, seen_from-File, seen_from-there, dir_at, file_at, there_is, nothing_below, nothing_in_file}
 use Rattle.dc_fs.specs.Answers.{refused_list}
 use Rattle.dc_fs.specs.Looks.{is_shown, AreNames}
-use Rattle.dc_cli.specs.Items.{rel_of, item_of, is_dir, fits, fits_under}
+use Rattle.dc_cli.specs.Items.{rel_of, item_of, fits_under}
 use Rattle.dc_cli.specs.Listed.{Listing, listed}
 use Rattle.dc_cli.specs.Walks.{IsChanged}
 use Rattle.dc_cli.specs.Walking.{child_of, entered, through, item_under, Gains, GainsNames, GainsAll, GainsItem, Keeps, DirStops, ChildStops}
@@ -29,6 +29,8 @@ use Rattle.dc_cli.specs.declared.listing.Item.{Item}
 use Rattle.dc_cli.specs.declared.listing.Place.{Place}
 use Rattle.dc_cli.specs.declared.listing.ListError.{ListError}
 use Rattle.dc_cli.specs.declared.listing.ListError.TheVariants as list_error
+use Rattle.std.proofs.lemmas.Bool.{and_from}
+use Rattle.std.specs.Cmp.{second_so}
 
 -- a walk of a directory that has done i of its names
 pub record Walking (dir : Place) (names : Names) (i : ℕ) (told : Option Tree) (old new : List Item) : Type 0 where
@@ -123,21 +125,12 @@ gains_down rel x A old new a = λ q.
     a q ∙ ap (option_or (found rel_of old q)) (ap (λ o. at_cut o None (λ rest. option_map (item_of q) (A rest))) (cut-child rel x q) ∙ down_at x A (item_of q) (cut rel q))
 
 -- ---- what is listed at and under one name
-pub same_name-flip : (x y : List ℕ) → same_name x y ≡ same_name y x
-same_name-flip x y = flip_at x y (name_case x y) (name_case y x)
-  where
-    flip_at : (x y : List ℕ) → NameCase x y → NameCase y x → same_name x y ≡ same_name y x
-    flip_at x y (same e h) (same f k) = e ∙ sym f
-    flip_at x y (same e h) (other f k) = absurd (k (sym h))
-    flip_at x y (other e h) (same f k) = absurd (h (sym k))
-    flip_at x y (other e h) (other f k) = e ∙ sym f
-
-pub any_one : (b : Bool) → (b || false) ≡ b
-any_one true = refl
-any_one false = refl
+pub or-false : (b : Bool) → (b || false) ≡ b
+or-false true = refl
+or-false false = refl
 
 pub through_one : (x y : List ℕ) (L : Listing) (rest : Names) → through (x ∷ []) L (y ∷ rest) ≡ cond (same_name x y) (L (y ∷ rest)) None
-through_one x y L rest = ap (λ b. cond b (L (y ∷ rest)) None) (any_one (same_name y x) ∙ same_name-flip y x)
+through_one x y L rest = ap (λ b. cond b (L (y ∷ rest)) None) (or-false (same_name y x) ∙ same_name-flip y x)
 
 not_hidden : (x : List ℕ) (r : Names) → is_shown x ≡ true → is_hidden (x ∷ r) ≡ is_hidden r
 not_hidden x r h = hidden_at (same_name snapshot x) (is_hidden r) h
@@ -248,10 +241,6 @@ keeps_then dir x old mid new a b = record {
     longer : (front path rel : Names) (x : List ℕ) → path ≡ front ++ rel → path ++ x ∷ [] ≡ front ++ (rel ++ x ∷ [])
     longer front path rel x e = ap (λ (p : Names). p ++ x ∷ []) e ∙ append_assoc front rel (x ∷ [])
 
-both_true : (a b : Bool) → a ≡ true → b ≡ true → (a && b) ≡ true
-both_true true b h k = k
-both_true false b h k = cc
-
 keeps_item : (place : Place) (old : List Item) (item : Item) → item.rel ≡ place.rel → is_ascending (map rel_of old) ≡ true → all_below (map rel_of old) place.rel ≡ true → length (old ++ item ∷ []) ≤ 1048576 → fits place.from ≡ true → fits place.to ≡ true → Keeps place old (old ++ item ∷ [])
 keeps_item place old item e a b l f t =
     let rels : map rel_of (old ++ item ∷ []) ≡ map rel_of old ++ place.rel ∷ [] = map-append rel_of old (item ∷ []) ∙ ap (λ (r : Names). map rel_of old ++ r ∷ []) e in
@@ -266,7 +255,7 @@ keeps_item place old item e a b l f t =
     fits_more : (old : List Item) (item : Item) (front path rel : Names) → item.rel ≡ rel → path ≡ front ++ rel → fits path ≡ true → list_all (fits_under front) old ≡ true → list_all (fits_under front) (old ++ item ∷ []) ≡ true
     fits_more old item front path rel e g f k =
         let one : fits_under front item ≡ true = ap fits (ap (λ (r : Names). front ++ r) e ∙ sym g) ∙ f in
-        list_all-append (fits_under front) old (item ∷ []) ∙ both_true _ _ k (both_true _ _ one refl)
+        list_all-append (fits_under front) old (item ∷ []) ∙ and_from _ _ k (and_from _ _ one refl)
 
 pub keeps_push : (place : Place) (old new : List Item) (item : Item) → item.rel ≡ place.rel → is_ascending (map rel_of old) ≡ true → all_below (map rel_of old) place.rel ≡ true → fits place.from ≡ true → fits place.to ≡ true → new ≡ old ++ item ∷ [] → length new ≤ 1048576 → Keeps place old new
 keeps_push place old new item e a b f t n l = subst (λ (ns : List Item). Keeps place old ns) (sym n) (keeps_item place old item e a b (subst (λ (ns : List Item). length ns ≤ 1048576) n l) f t)
@@ -296,12 +285,12 @@ shows_it (File b a) shown h = (λ k. cc, λ k. cc)
 pub never_missing : {T : Type 0} (told : Option Tree) (place : Place) (shown : Seen) (r : Result T ListError) → shown ≡ seen_as.Missing → IfSome told (λ s. shown ≡ seen s place.from) → IfErr r (λ e. ChildStops e told place)
 never_missing told place shown (Ok x) h k = tt
 never_missing None place shown (Err e) h k = tt
-never_missing (Some s) place shown (Err e) h k = λ v _ there. let n = there_is (s place.from) there in (shows_it n.0 shown (k ∙ seen_from-there s [] place.from n.0 v n.1)).0 h
+never_missing (Some s) place shown (Err e) h k = λ v _ n. (shows_it n.0 shown (k ∙ seen_from-there s [] place.from n.0 v n.1)).0 h
 
 pub never_not_dir : {T : Type 0} (told : Option Tree) (place : Place) (shown : Seen) (r : Result T ListError) → shown ≡ seen_as.NotDir → IfSome told (λ s. shown ≡ seen s place.from) → IfErr r (λ e. ChildStops e told place)
 never_not_dir told place shown (Ok x) h k = tt
 never_not_dir None place shown (Err e) h k = tt
-never_not_dir (Some s) place shown (Err e) h k = λ v _ there. let n = there_is (s place.from) there in (shows_it n.0 shown (k ∙ seen_from-there s [] place.from n.0 v n.1)).1 h
+never_not_dir (Some s) place shown (Err e) h k = λ v _ n. (shows_it n.0 shown (k ∙ seen_from-there s [] place.from n.0 v n.1)).1 h
 
 -- ---- the steps of a walk
 pub file_added : (told : Option Tree) (dir : Place) (x : List ℕ) (old new : List Item) → is_shown x ≡ true → GainsItem told (child_of dir x) false old new → GainsNames (x ∷ []) told dir old new
@@ -379,11 +368,7 @@ dir_denied e (Some s) dir h = λ v c d. h c (seen_from-there s [] dir.from (Dir 
 
 pub child_denied : (e : ListError) (told : Option Tree) (dir : Place) (names : Names) (i : ℕ) (x : List ℕ) → i < length names → x ≡ get_or names i [] → IfSome told (λ s. AreNames s dir.from names) → ChildStops e told (child_of dir x) → DirStops e told dir
 child_denied e None dir names i x l f a h = tt
-child_denied e (Some s) dir names i x l f a h = λ v c d. h v c (second (is_shown x) (is_some (s (dir.from ++ x ∷ []))) (sym (a x) ∙ among names i x l f))
-  where
-    second : (a b : Bool) → (a && b) ≡ true → b ≡ true
-    second true b h = h
-    second false b h = cc
+child_denied e (Some s) dir names i x l f a h = λ v c d. h v c (there_is (s (dir.from ++ x ∷ [])) (second_so (is_shown x) (is_some (s (dir.from ++ x ∷ []))) (sym (a x) ∙ among names i x l f)))
 
 -- a store lists directories alone
 refused_as : (shown : Seen) → refused_list shown ≡ None → shown ≡ seen_as.Dir

@@ -11,13 +11,13 @@ use Rattle.std.specs.declared.cmp.Ordering.TheVariants.{Less}
 use Rattle.dc_path.specs.Found.{found}
 use Rattle.dc_path.specs.Names.{same_name}
 use Rattle.dc_path.specs.Order.{name_lt, path_lt, is_ascending}
-use Rattle.dc_path.specs.Paths.{Names, same_path}
-use Rattle.dc_path.proofs.OrderLemmas.{name_lt-cmp, name_lt-trans, name_lt-apart}
-use Rattle.dc_path.proofs.PathLemmas.{NameCase, same, other, name_case, same_name-refl, path_decides}
+use Rattle.dc_path.specs.Paths.{Names, same_path, fits}
+use Rattle.dc_path.proofs.OrderLemmas.{name_lt-cmp}
+use Rattle.dc_path.proofs.PathLemmas.{NameCase, same, other, name_case, same_name-refl, path_decides, same_name-flip}
 use Rattle.dc_attrs.specs.Trees.{Node, Tree, IsTree, IsThere}
 use Rattle.dc_attrs.proofs.TreeLemmas.{there_is}
 use Rattle.dc_fs.specs.Looks.{is_shown, AreNames}
-use Rattle.dc_cli.specs.Items.{rel_of, item_of, fits, fits_under}
+use Rattle.dc_cli.specs.Items.{rel_of, item_of, fits_under}
 use Rattle.dc_cli.specs.Listed.{Listing, listed}
 use Rattle.dc_cli.specs.Walks.{both_fit, AreBefore, IsTooLong, IsTooMany, IfTooLong}
 use Rattle.dc_cli.specs.Walking.{child_of, entered, through, before, Gains, GainsNames, GainsItem, Keeps, IsLimit, IsPassed, StopsAt, DirPasses, ChildPasses, IsFull}
@@ -25,23 +25,13 @@ use Rattle.dc_cli.specs.declared.listing.Item.{Item}
 use Rattle.dc_cli.specs.declared.listing.Place.{Place}
 use Rattle.dc_cli.specs.declared.listing.ListError.{ListError}
 use Rattle.dc_cli.specs.declared.listing.ListError.TheVariants as list_error
-use Rattle.dc_cli.proofs.ListingLemmas.{gains_then, gains_as, gains_nothing, gains_push, gains_down, only, below, same_name-flip, through_one, dir_rest, not_listed, names_ascend, among}
+use Rattle.dc_cli.proofs.ListingLemmas.{gains_then, gains_as, gains_nothing, gains_push, gains_down, only, below, through_one, dir_rest, not_listed, names_ascend, among, none_either}
+use Rattle.dc_path.proofs.PathOrder.{name_lt-irrefl, name_lt-back, path_lt-root}
+use Rattle.std.proofs.lemmas.Bool.{and_from, and_parts}
+use Rattle.std.specs.Cmp.{second_so}
+use Rattle.dc_path.proofs.FoundLemmas.{any-found}
 
 -- ---- the order of names
-name_lt-self : (x : List ℕ) → name_lt x x ≡ false
-name_lt-self x = self_at x (name_lt x x) refl
-  where
-    self_at : (x : List ℕ) (b : Bool) → name_lt x x ≡ b → b ≡ false
-    self_at x true h = let a = name_lt-apart x x h in let r = same_name-refl x in cc
-    self_at x false h = refl
-
-name_lt-back : (x y : List ℕ) → name_lt x y ≡ true → name_lt y x ≡ false
-name_lt-back x y h = back_at x y h (name_lt y x) refl
-  where
-    back_at : (x y : List ℕ) → name_lt x y ≡ true → (b : Bool) → name_lt y x ≡ b → b ≡ false
-    back_at x y h true k = let t = name_lt-trans x y x h k in let n = name_lt-self x in cc
-    back_at x y h false k = refl
-
 -- a name among those that come after another
 after_at : (z y w : List ℕ) (names : Names) → slice_cmp nat_cmp z w ≡ Less → NameCase y w → (list_any (same_name y) names ≡ true → name_lt z y ≡ true) → (same_name y w || list_any (same_name y) names) ≡ true → name_lt z y ≡ true
 after_at z y w names l (same e k) ih h = name_lt-cmp z y ∙ ap (λ (v : List ℕ). is_lt (slice_cmp nat_cmp z v)) k ∙ ap is_lt l
@@ -52,7 +42,7 @@ after_first z y [] a h = cc
 after_first z y (w ∷ names) a h = after_at z y w names a.0 (name_case y w) (after_first z y names a.1) h
 
 front_at : (y z : List ℕ) (names : Names) → IsStrictlySortedBy (slice_cmp nat_cmp) (z ∷ names) → NameCase y z → (same_name y z || list_any (same_name y) names) ≡ true → name_lt y z ≡ false
-front_at y z names a (same e k) h = ap (λ (v : List ℕ). name_lt v z) k ∙ name_lt-self z
+front_at y z names a (same e k) h = ap (λ (v : List ℕ). name_lt v z) k ∙ name_lt-irrefl z
 front_at y z names a (other e k) h = name_lt-back z y (after_first z y names (sorted_head (slice_cmp nat_cmp) z names a) (sym (ap (λ b. b || list_any (same_name y) names) e) ∙ h))
 
 rest_at : (y z x : List ℕ) (names front : Names) → NameCase y z → name_lt z x ≡ true → (list_any (same_name y) names ≡ true → list_any (same_name y) front ≡ name_lt y x) → (same_name y z || list_any (same_name y) names) ≡ true → (same_name y z || list_any (same_name y) front) ≡ name_lt y x
@@ -67,14 +57,6 @@ among_front (z ∷ names) (suc i) y a l h =
     rest_at y z (get_or names i []) names (take i names) (name_case y z) (names_ascend (z ∷ names) 0 (suc i) a (omega arith) l) (among_front names i y (sorted_tail (slice_cmp nat_cmp) z names a) (omega arith)) h
 
 -- ---- a stop at a child
-lt_none : (p : Names) → path_lt p [] ≡ false
-lt_none [] = refl
-lt_none (x ∷ p) = refl
-
-cond_none : {A : Type 0} (b : Bool) → ◌≡◌ {A = Option A} (cond b None None) None
-cond_none true = refl
-cond_none false = refl
-
 -- nothing at and under a name stands before it
 nothing_before : (x : List ℕ) (L : Listing) (rest : Names) → None ≡ before (x ∷ []) (through (x ∷ []) L) rest
 nothing_before x L [] = refl
@@ -83,21 +65,20 @@ nothing_before x L (y ∷ r) = sym (
     ∙ nothing_at (name_case x y))
   where
     nothing_at : NameCase x y → cond (name_lt y x || (same_name y x && path_lt r [])) (cond (same_name x y) (L (y ∷ r)) None) None ≡ None
-    nothing_at (same e k) = ap (λ b. cond b (cond (same_name x y) (L (y ∷ r)) None) None) (not_first (name_lt y x) (same_name y x) (path_lt r []) (ap (λ (v : List ℕ). name_lt y v) k ∙ name_lt-self y) (lt_none r))
+    nothing_at (same e k) = ap (λ b. cond b (cond (same_name x y) (L (y ∷ r)) None) None) (not_first (name_lt y x) (same_name y x) (path_lt r []) (ap (λ (v : List ℕ). name_lt y v) k ∙ name_lt-irrefl y) (path_lt-root r))
       where
         not_first : (a b c : Bool) → a ≡ false → c ≡ false → (a || (b && c)) ≡ false
         not_first true b c h k = cc
         not_first false true c h k = k
         not_first false false c h k = refl
-    nothing_at (other e k) = ap (λ b. cond (name_lt y x || (same_name y x && path_lt r [])) (cond b (L (y ∷ r)) None) None) e ∙ cond_none (name_lt y x || (same_name y x && path_lt r []))
+    nothing_at (other e k) = ap (λ b. cond (name_lt y x || (same_name y x && path_lt r [])) (cond b (L (y ∷ r)) None) None) e ∙ none_either (name_lt y x || (same_name y x && path_lt r []))
 
 -- what stands is listed
 there_through : (s : Tree) (from : Names) (x : List ℕ) (node : Node) (r : Names) (o : Option Node) → listed s from (x ∷ r) ≡ o → through (x ∷ []) (listed s from) (x ∷ r) ≡ o
 there_through s from x node r o h = through_one x x (listed s from) r ∙ ap (λ b. cond b (listed s from (x ∷ r)) None) (same_name-refl x) ∙ h
 
 pub stop_here : (e : ListError) (s : Tree) (dir : Place) (x : List ℕ) (items : List Item) → is_shown x ≡ true → IsThere s (dir.from ++ x ∷ []) → IsPassed e (dir.from ++ x ∷ []) (dir.to ++ x ∷ []) items → StopsAt e (through (x ∷ []) (listed s dir.from)) dir items items
-stop_here e s dir x items h there p =
-    let n = there_is (s (dir.from ++ x ∷ [])) there in
+stop_here e s dir x items h n p =
     record {
       rest = x ∷ [];
       listed = ap is_some (there_through s dir.from x n.0 [] (Some n.0) (sym (dir_rest s dir.from x n.0 [] h n.1)));
@@ -128,7 +109,7 @@ dir_before s from x node stop (y ∷ q) h e n = before_at (name_case x y) ∙ sy
     before_at : NameCase x y → option_or (cond (same_name x y && same_path [] q) (Some node) None) (cond (same_name x y) (cond (path_lt q stop) (listed s (from ++ x ∷ []) q) None) None)
         ≡ cond (name_lt y x || (same_name y x && path_lt q stop)) (cond (same_name x y) (listed s from (y ∷ q)) None) None
     before_at (same t k) =
-        let lt : name_lt y x ≡ false = ap (λ (v : List ℕ). name_lt y v) k ∙ name_lt-self y in
+        let lt : name_lt y x ≡ false = ap (λ (v : List ℕ). name_lt y v) k ∙ name_lt-irrefl y in
         let eq : same_name y x ≡ true = ap (λ (v : List ℕ). same_name y v) k ∙ same_name-refl y in
         ap (λ b. option_or (cond (b && same_path [] q) (Some node) None) (cond b (cond (path_lt q stop) (listed s (from ++ x ∷ []) q) None) None)) t
         ∙ front_or q stop node (listed s (from ++ x ∷ [])) refl n
@@ -139,7 +120,7 @@ dir_before s from x node stop (y ∷ q) h e n = before_at (name_case x y) ∙ sy
     before_at (other t k) =
         ap (λ b. option_or (cond (b && same_path [] q) (Some node) None) (cond b (cond (path_lt q stop) (listed s (from ++ x ∷ []) q) None) None)) t
         ∙ sym (ap (λ b. cond (name_lt y x || (same_name y x && path_lt q stop)) (cond b (listed s from (y ∷ q)) None) None) t
-        ∙ cond_none (name_lt y x || (same_name y x && path_lt q stop)))
+        ∙ none_either (name_lt y x || (same_name y x && path_lt q stop)))
 
 pub stop_under : (e : ListError) (s : Tree) (dir : Place) (x : List ℕ) (old mid new : List Item) → is_shown x ≡ true → GainsItem (Some s) (child_of dir x) true old mid → StopsAt e (listed s (dir.from ++ x ∷ [])) (child_of dir x) mid new → StopsAt e (through (x ∷ []) (listed s dir.from)) dir old new
 stop_under e s dir x old mid new h g w =
@@ -166,9 +147,9 @@ loop_or false true p k = refl
 loop_or false false p k = refl
 
 nowhere : (a b c : Bool) → ◌≡◌ {A = Option Node} (option_or (cond a None None) (cond b (cond c None None) None)) (cond b None None)
-nowhere true true c = cond_none c
+nowhere true true c = none_either c
 nowhere true false c = refl
-nowhere false true c = cond_none c
+nowhere false true c = none_either c
 nowhere false false c = refl
 
 loop_before : (s : Tree) (from names : Names) (i : ℕ) (x : List ℕ) (r rest : Names) → IsTree s → AreNames s from names → IsStrictlySortedBy (slice_cmp nat_cmp) names → i < length names → x ≡ get_or names i [] →
@@ -255,39 +236,14 @@ pub under_passes : (e : ListError) (told : Option Tree) (dir : Place) (x : List 
 under_passes e None dir x old mid new h g w = tt
 under_passes e (Some s) dir x old mid new h g w = λ v there lim. stop_under e s dir x old mid new h g (w v lim)
 
-second : (a b : Bool) → (a && b) ≡ true → b ≡ true
-second true b h = h
-second false b h = cc
-
 -- a limit passed in the loop over the names
 pub loop_passes : (e : ListError) (told : Option Tree) (dir : Place) (names : Names) (i : ℕ) (x : List ℕ) (old mid new : List Item) → IfSome told (λ s. AreNames s dir.from names) → IsStrictlySortedBy (slice_cmp nat_cmp) names → i < length names → x ≡ get_or names i [] →
     GainsNames (take i names) told dir old mid → ChildPasses e told dir x mid new → DirPasses e told dir old new
 loop_passes e None dir names i x old mid new a o l h g w = tt
 loop_passes e (Some s) dir names i x old mid new a o l h g w = λ v lim.
-    stop_in_loop e s dir names i x old mid new v a o l h (g v) (w v (second (is_shown x) (is_some (s (dir.from ++ x ∷ []))) (sym (a x) ∙ among names i x l h)) lim)
+    stop_in_loop e s dir names i x old mid new v a o l h (g v) (w v (there_is (s (dir.from ++ x ∷ [])) (second_so (is_shown x) (is_some (s (dir.from ++ x ∷ []))) (sym (a x) ∙ among names i x l h))) lim)
 
 -- ---- the answers of the whole walk
-same_path-flip : (p q : Names) → same_path p q ≡ same_path q p
-same_path-flip p q = flip_at (same_path p q) (same_path q p) refl refl
-  where
-    flip_at : (a b : Bool) → same_path p q ≡ a → same_path q p ≡ b → same_path p q ≡ same_path q p
-    flip_at true true h k = h ∙ sym k
-    flip_at false false h k = h ∙ sym k
-    flip_at true false h k = h ∙ sym ((path_decides q p).1 (sym ((path_decides p q).0 h)))
-    flip_at false true h k = (path_decides p q).1 (sym ((path_decides q p).0 k)) ∙ sym k
-
-found_or : (b c : Bool) (item : Item) (o : Option Item) → is_some o ≡ c → is_some (cond b (Some item) o) ≡ (b || c)
-found_or true c item o h = refl
-found_or false c item o h = h
-
-found_any : (items : List Item) (q : Names) → is_some (found rel_of items q) ≡ list_any (same_path q) (map rel_of items)
-found_any [] q = refl
-found_any (item ∷ items) q = found_or (same_path (rel_of item) q) _ item (found rel_of items q) (found_any items q) ∙ ap (λ b. b || list_any (same_path q) (map rel_of items)) (same_path-flip (rel_of item) q)
-
-both : (a b : Bool) → (a && b) ≡ true → (a ≡ true) × (b ≡ true)
-both true b h = (refl, h)
-both false b h = cc
-
 fits_at : (front : Names) (item : Item) (o : Option Item) (q : Names) (b : Bool) → same_path (rel_of item) q ≡ b → fits_under front item ≡ true → (is_some o ≡ true → fits (front ++ q) ≡ true) → is_some (cond b (Some item) o) ≡ true → fits (front ++ q) ≡ true
 fits_at front item o q true e f ih h = subst (λ (p : Names). fits (front ++ p) ≡ true) ((path_decides (rel_of item) q).0 e) f
 fits_at front item o q false e f ih h = ih h
@@ -295,7 +251,7 @@ fits_at front item o q false e f ih h = ih h
 found_fits : (front : Names) (items : List Item) (q : Names) → list_all (fits_under front) items ≡ true → is_some (found rel_of items q) ≡ true → fits (front ++ q) ≡ true
 found_fits front [] q a h = cc
 found_fits front (item ∷ items) q a h =
-    let parts = both (fits_under front item) (list_all (fits_under front) items) a in
+    let parts = and_parts (fits_under front item) (list_all (fits_under front) items) a in
     fits_at front item (found rel_of items q) q (same_path (rel_of item) q) refl parts.0 (found_fits front items q parts.1) h
 
 some_map : (f : Node → Item) (b : Bool) (o : Option Node) → is_some (option_map f (cond b o None)) ≡ (b && is_some o)
@@ -308,19 +264,15 @@ stopped_found : (listing : Listing) (rest : Names) (items : List Item) → Gains
 stopped_found listing rest items g q = ap is_some (g q) ∙ some_map (item_of q) (path_lt q rest) (listing q)
 
 rels_before : (listing : Listing) (rest : Names) (items : List Item) → is_ascending (map rel_of items) ≡ true → Gains [] (before rest listing) [] items → AreBefore listing rest (map rel_of items)
-rels_before listing rest items a g = record { ascending = a; listed = λ q. sym (found_any items q) ∙ stopped_found listing rest items g q }
+rels_before listing rest items a g = record { ascending = a; listed = λ q. any-found rel_of items q ∙ stopped_found listing rest items g q }
 
 abbrev pub top_of : Names → Names → Place
 top_of root base = record { from = root; rel = []; to = base }
 
-and_both : (a b : Bool) → a ≡ true → b ≡ true → (a && b) ≡ true
-and_both true b h k = k
-and_both false b h k = cc
-
 first_fit : (listing : Listing) (root base rest : Names) (items : List Item) → Keeps (top_of root base) [] items → Gains [] (before rest listing) [] items → (q : Names) → path_lt q rest ≡ true → is_some (listing q) ≡ true → both_fit root base q ≡ true
 first_fit listing root base rest items k g q l h =
-    let there = stopped_found listing rest items g q ∙ and_both (path_lt q rest) (is_some (listing q)) l h in
-    and_both (fits (root ++ q)) (fits (base ++ q))
+    let there = stopped_found listing rest items g q ∙ and_from (path_lt q rest) (is_some (listing q)) l h in
+    and_from (fits (root ++ q)) (fits (base ++ q))
     (found_fits root items q (k.sources root (sym (append-nil root)) refl) there)
     (found_fits base items q (k.places base (sym (append-nil base)) refl) there)
 

@@ -5,10 +5,9 @@ use Rattle.std.proofs.lemmas.List.Elements.{filter-append}
 use Rattle.std.specs.Iterator.{Yields}
 use Rattle.std.specs.Option.{option_map}
 use Rattle.std.specs.List.{list_all}
-use Rattle.dc_path.specs.Paths.{Names}
+use Rattle.dc_path.specs.Paths.{Names, fits}
 use Rattle.dc_attrs.specs.Trees.{Tree, updated, made}
 use Rattle.dc_fs.specs.Rest.{Rest}
-use Rattle.dc_cli.specs.Items.{fits}
 use Rattle.dc_cli.specs.Makeable.{CanMakeAt, CanMake, CanMakeAll, CanLandAt, CanLandAll}
 use Rattle.dc_cli.specs.Phases.{Content, ways, folder_places, place_of, all_made, all_landed, landed_as, is_dir_item}
 use Rattle.dc_cli.specs.Steps.{is_told, LandsAll}

@@ -10,7 +10,7 @@ use Rattle.dc_path.specs.Paths.{Names, joined, text_of}
 use Rattle.std.proofs.lemmas.Int.Digits.{digits_of_step}
 use Rattle.std.proofs.lemmas.List.{take-append-le, map-append}
 use Rattle.std.proofs.lemmas.Result.{on_ok_weaker, on_err_weaker}
-use Rattle.dc_fs.specs.Temporaries.{WriteStops}
+use Rattle.dc_fs.specs.Temporaries.{IsPast, WriteStops}
 use Rattle.dc_cli.specs.Numbers.{decimal_of, digit_of}
 use Rattle.dc_cli.specs.Output.{counter_lines, line}
 use Rattle.dc_cli.specs.declared.outcome.Counts.{Counts}
@@ -46,26 +46,43 @@ pub takes_both : (a b : List ℕ) (old : Option (List ℕ)) → option_map (λ w
 takes_both a b None = refl
 takes_both a b (Some w) = ap Some (append_assoc w a b)
 
+past_first : (limit : Option ℕ) (a b : List ℕ) (old : Option (List ℕ)) → IsPast limit a old → IsPast limit (a ++ b) old
+past_first None a b old h = tt
+past_first (Some most) a b None h = tt
+past_first (Some most) a b (Some w) h = omega (arith, h, length-append a b)
+
+past_second : (limit : Option ℕ) (a b : List ℕ) (old mid : Option (List ℕ)) → mid ≡ option_map (λ w. w ++ a) old → IsPast limit b mid → IsPast limit (a ++ b) old
+past_second None a b old mid is h = tt
+past_second (Some most) a b None mid is h = tt
+past_second (Some most) a b (Some w) mid is h = let k : most < length (w ++ a) + length b = subst (λ o. IsPast (Some most) b o) is h in omega (arith, k, length-append w a, length-append a b)
+
 -- a front of the first text is a front of both
-pub stops_first : (a b : List ℕ) (old new : Option (List ℕ)) → WriteStops a old new → WriteStops (a ++ b) old new
-stops_first a b old new (n, few, e) = (n, omega (arith, length-append a b), rw (take-append-le n a b few) e)
+pub stops_first : (limit : Option ℕ) (a b : List ℕ) (old new : Option (List ℕ)) → WriteStops limit a old new → WriteStops limit (a ++ b) old new
+stops_first limit a b old new h = let few = h.front in record {
+  count = h.count;
+  front = omega (arith, few, length-append a b);
+  taken = rw (take-append-le h.count a b few) h.taken;
+  past = past_first limit a b old h.past;
+}
 
 -- the first text and a front of the second is a front of both
-pub stops_second : (a b : List ℕ) (old mid new : Option (List ℕ)) → mid ≡ option_map (λ w. w ++ a) old → WriteStops b mid new → WriteStops (a ++ b) old new
-stops_second a b old mid new is (n, few, e) = (
-  length a + n,
-  omega (arith, length-append a b),
-  e ∙ ap (option_map (λ w. w ++ take n b)) is ∙ takes_both a (take n b) old ∙ ap (λ t. option_map (λ (w : List ℕ). w ++ t) old) (sym (take-append-add a b n)),
-)
+pub stops_second : (limit then : Option ℕ) (a b : List ℕ) (old mid new : Option (List ℕ)) → then ≡ limit → mid ≡ option_map (λ w. w ++ a) old → WriteStops then b mid new → WriteStops limit (a ++ b) old new
+stops_second limit then a b old mid new l is h = let few = h.front in record {
+  count = length a + h.count;
+  front = omega (arith, few, length-append a b);
+  taken = h.taken ∙ ap (option_map (λ w. w ++ take h.count b)) is ∙ takes_both a (take h.count b) old ∙ ap (λ t. option_map (λ (w : List ℕ). w ++ t) old) (sym (take-append-add a b h.count));
+  past = past_second limit a b old mid is (subst (λ o. IsPast o b mid) l h.past);
+}
 
 -- the same for what a call answers that begins with the first text, or follows it
+module _ {E : Type 0} (r : Result (Unit {0}) E) (limit then : Option ℕ) (l : then ≡ limit) (a b : List ℕ) where
+  pub stopped_first : (old new : Option (List ℕ)) → WriteStops limit a old new → OnErr r (WriteStops limit (a ++ b) old new)
+  stopped_first old new h = elim r as (λ v. OnErr v (WriteStops limit (a ++ b) old new)) [ Ok x ↦ tt | Err e ↦ stops_first limit a b old new h ]
+
+  pub stopped_second : (old mid new : Option (List ℕ)) → mid ≡ option_map (λ w. w ++ a) old → OnErr r (WriteStops then b mid new) → OnErr r (WriteStops limit (a ++ b) old new)
+  stopped_second old mid new taken h = on_err_weaker r (stops_second limit then a b old mid new l taken) h
+
 module _ {E : Type 0} (r : Result (Unit {0}) E) (a b : List ℕ) where
-  pub stopped_first : (old new : Option (List ℕ)) → WriteStops a old new → OnErr r (WriteStops (a ++ b) old new)
-  stopped_first old new h = elim r as (λ v. OnErr v (WriteStops (a ++ b) old new)) [ Ok x ↦ tt | Err e ↦ stops_first a b old new h ]
-
-  pub stopped_second : (old mid new : Option (List ℕ)) → mid ≡ option_map (λ w. w ++ a) old → OnErr r (WriteStops b mid new) → OnErr r (WriteStops (a ++ b) old new)
-  stopped_second old mid new taken h = on_err_weaker r (stops_second a b old mid new taken) h
-
   pub taken_second : (old mid new : Option (List ℕ)) → mid ≡ option_map (λ w. w ++ a) old → OnOk r (new ≡ option_map (λ w. w ++ b) mid) → OnOk r (new ≡ option_map (λ w. w ++ (a ++ b)) old)
   taken_second old mid new taken h = on_ok_weaker r (λ e. e ∙ ap (option_map (λ w. w ++ b)) taken ∙ takes_both a b old) h
 
@@ -122,11 +139,11 @@ module _ {X : Type 0} (f : X → List ℕ) where
 
   module _ (xs : List X) (i : ℕ) (x : X) (old mid new : Option (List ℕ)) (is : slice_get xs i ≡ Some x) (taken : mid ≡ option_map (λ w. w ++ flat_map f (take i xs)) old) where
     -- the texts so far, and a front of the text of the next item
-    pub stopped_at : {E : Type 0} (r : Result (Unit {0}) E) → WriteStops (f x) mid new → OnErr r (WriteStops (flat_map f xs) old new)
-    stopped_at r stopped =
+    pub stopped_at : {E : Type 0} (limit then : Option ℕ) (l : then ≡ limit) (r : Result (Unit {0}) E) → WriteStops then (f x) mid new → OnErr r (WriteStops limit (flat_map f xs) old new)
+    stopped_at limit then l r stopped =
         let rest = flat_map f (drop (suc i) xs) in
-        subst (λ t. OnErr r (WriteStops t old new)) (sym (split_at xs i x is))
-        (stopped_second r (flat_map f (take i xs)) (f x ++ rest) old mid new taken (stopped_first r (f x) rest mid new stopped))
+        subst (λ t. OnErr r (WriteStops limit t old new)) (sym (split_at xs i x is))
+        (stopped_second r limit then l (flat_map f (take i xs)) (f x ++ rest) old mid new taken (stopped_first r then then refl (f x) rest mid new stopped))
 
     -- the texts so far, and the text of the next item
     pub takes_next : new ≡ option_map (λ w. w ++ f x) mid → new ≡ option_map (λ w. w ++ flat_map f (take (i + 1) xs)) old

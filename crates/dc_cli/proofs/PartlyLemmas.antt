@@ -5,7 +5,7 @@ use Rattle.std.proofs.lemmas.List.{length-map, take-map}
 use Rattle.std.proofs.lemmas.Simd.{map-map}
 use Rattle.std.specs.Option.{option_map, is_some}
 use Rattle.std.specs.List.{list_all, list_any}
-use Rattle.dc_path.specs.Found.{found}
+use Rattle.dc_path.specs.Found.{found, has_path}
 use Rattle.dc_path.specs.Order.{is_ascending, path_lt}
 use Rattle.dc_path.specs.Paths.{Names, same_path, cut, at_cut, is_root}
 use Rattle.dc_attrs.specs.Attributes.{default_file}
@@ -31,21 +31,25 @@ use Rattle.dc_cli.specs.declared.outcome.Outcome.{Outcome}
 use Rattle.dc_cli.specs.declared.outcome.Outcome.TheVariants as outcome
 use Rattle.dc_cli.specs.declared.outcome.Phase.{Phase}
 use Rattle.dc_cli.specs.declared.outcome.Phase.TheVariants as phase_of
-use Rattle.dc_cli.proofs.EffectLemmas.{effects_are, folders_are, found-below, found-not_below, any-found, same_path-sym}
-use Rattle.dc_cli.proofs.PartLemmas.{both_first, both_second, both_true, kept, ascending-filter, found-filter}
+use Rattle.dc_cli.proofs.EffectLemmas.{effects_are, folders_are}
 use Rattle.dc_cli.proofs.StopLemmas.{quiet_ends}
-use Rattle.dc_cli.proofs.ResultLemmas.{has_path, made_at, landed_from, landed_below, landed_off, all_are_told, result_is, listed_stands}
+use Rattle.dc_cli.proofs.ResultLemmas.{made_at, landed_from, landed_below, landed_off, all_are_told, result_is}
+use Rattle.dc_path.proofs.FoundLemmas.{found-below, found-not_below, any-found, kept, ascending-filter, found-filter}
+use Rattle.dc_path.proofs.PathLemmas.{same_path-flip}
+use Rattle.std.specs.Cmp.{first_so, second_so}
+use Rattle.std.proofs.lemmas.Bool.{and_from}
+use Rattle.dc_attrs.proofs.TreeLemmas.{stands_at}
 
 -- ---- a front of a list that ascends
 above-take : (p : Names) (k : ℕ) (xs : List Item) → list_all (path_lt p) (map rel_of xs) ≡ true → list_all (path_lt p) (map rel_of (take k xs)) ≡ true
 above-take p zero xs h = refl
 above-take p (suc k) [] h = refl
-above-take p (suc k) (x ∷ xs) h = both_true _ _ (both_first _ _ h) (above-take p k xs (both_second _ _ h))
+above-take p (suc k) (x ∷ xs) h = and_from _ _ (first_so _ _ h) (above-take p k xs (second_so _ _ h))
 
 ascending-take : (k : ℕ) (xs : List Item) → is_ascending (map rel_of xs) ≡ true → is_ascending (map rel_of (take k xs)) ≡ true
 ascending-take zero xs h = refl
 ascending-take (suc k) [] h = refl
-ascending-take (suc k) (x ∷ xs) h = both_true _ _ (above-take (rel_of x) k xs (both_first _ _ h)) (ascending-take k xs (both_second _ _ h))
+ascending-take (suc k) (x ∷ xs) h = and_from _ _ (above-take (rel_of x) k xs (first_so _ _ h)) (ascending-take k xs (second_so _ _ h))
 
 first_found : (x item : Item) (o w : Option Item) (b : Bool) → (o ≡ Some item → w ≡ Some item) → cond b (Some x) o ≡ Some item → cond b (Some x) w ≡ Some item
 first_found x item o w true h e = e
@@ -68,7 +72,7 @@ are_dirs s root d items a l = (
 -- ---- directories alone
 any_has : (ps : List Names) (q : Names) → list_any (same_path q) ps ≡ has_path ps q
 any_has [] q = refl
-any_has (p ∷ ps) q = ap (λ b. b || list_any (same_path q) ps) (same_path-sym q p) ∙ ap (λ b. same_path p q || b) (any_has ps q)
+any_has (p ∷ ps) q = ap (λ b. b || list_any (same_path q) ps) (same_path-flip q p) ∙ ap (λ b. same_path p q || b) (any_has ps q)
 
 pub made_partly : (listing : Listing) (t : Tree) (d : Names) (ps : List Names) (q : Names) → all_made ps t q ≡ partly listing t d ps [] q
 made_partly listing t d ps q = made_at ps t q ∙ ap (λ b. cond b (made (t q)) (t q)) (sym (any_has ps q))
@@ -81,7 +85,7 @@ file_lands s root r item old None l e = absurd (cc)
 file_lands s root r item old (Some (Dir a)) l e = absurd (cc)
 file_lands s root r item old (Some (File b a)) l e =
     let is : item_of r (File b a) ≡ item = cc in
-    let stands : s (root ++ r) ≡ Some (File b a) = listed_stands (is_root r || is_hidden r) (s (root ++ r)) (File b a) l in
+    let stands : s (root ++ r) ≡ Some (File b a) = stands_at (is_root r || is_hidden r) (s (root ++ r)) (File b a) l in
     ap (λ (i : Item). landed_from s root (Some i) old) (sym is)
     ∙ ap (λ (n : Option Node). Some (File (take (length b) (file_bytes n)) default_file)) stands
     ∙ ap (λ (bytes : List ℕ). Some (File bytes default_file)) (take-length b)

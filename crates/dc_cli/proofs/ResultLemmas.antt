@@ -2,12 +2,12 @@
 use Rattle.std.proofs.Common.{◌≡◌, ℕ, Bool, true, false, not, cond, ◌&&◌, ◌||◌, List, [], ◌∷◌, ◌++◌, take, length, map, filter, Option, Some, None, refl, sym, ap, ◌∙◌, arith}
 use Rattle.std.proofs.Math.Seq.{take-length}
 use Rattle.std.specs.Option.{option_map, is_some}
-use Rattle.std.specs.List.{list_all, list_any}
-use Rattle.dc_path.specs.Found.{found}
+use Rattle.std.specs.List.{list_all}
+use Rattle.dc_path.specs.Found.{found, has_path}
 use Rattle.dc_path.specs.Names.{same_name}
 use Rattle.dc_path.specs.Order.{is_ascending}
 use Rattle.dc_path.specs.Paths.{Names, same_path, cut, at_cut, is_root, is_above}
-use Rattle.dc_path.proofs.PathLemmas.{NameCase, name_case, same, other, same_name-refl, same_path-cut, same_path-not_below, append-cut}
+use Rattle.dc_path.proofs.PathLemmas.{same_name-refl, same_path-cut, same_path-not_below, append-cut, same_name-flip}
 use Rattle.dc_attrs.specs.Attributes.{default_file}
 use Rattle.dc_attrs.specs.Trees.{Node, Dir, File, Tree, IsDirAt, updated, made, is_hidden}
 use Rattle.dc_fs.specs.Temporaries.{told_if}
@@ -17,12 +17,13 @@ use Rattle.dc_cli.specs.Phases.{ways, folder_places, dir_places, place_of, all_m
 use Rattle.dc_cli.specs.Result.{copied, result}
 use Rattle.dc_cli.specs.Steps.{is_told}
 use Rattle.dc_cli.specs.declared.listing.Item.{Item}
-use Rattle.dc_cli.proofs.PartLemmas.{both_second, kept, ascending-filter, found-once, found-filter}
+use Rattle.dc_path.proofs.FoundLemmas.{kept, ascending-filter, found-once, found-filter}
+use Rattle.std.specs.Cmp.{second_so}
+use Rattle.dc_attrs.proofs.TreeLemmas.{stands_at}
+use Rattle.dc_cli.proofs.ListingLemmas.{or-false}
+use Rattle.std.proofs.lemmas.Bool.{or_right}
 
 -- ---- directories that are made, at one path
-abbrev pub has_path : List Names → Names → Bool
-has_path paths q = list_any (λ p. same_path p q) paths
-
 twice_made : (b : Bool) (o : Option Node) (c : Bool) → cond b (made (cond c (made o) o)) (cond c (made o) o) ≡ cond (c || b) (made o) o
 twice_made true None true = refl
 twice_made true None false = refl
@@ -71,12 +72,6 @@ way_on : (d q : Names) → cut d q ≡ None → has_path (ways d) q ≡ (not (is
 way_on d [] e ih = sym (above_root d e)
 way_on d (y ∷ q) e ih = ih
 
-same_flip : (x y : List ℕ) → NameCase x y → NameCase y x → same_name x y ≡ same_name y x
-same_flip x y (same a b) (same c d) = a ∙ sym c
-same_flip x y (same a b) (other c d) = absurd (d (sym b))
-same_flip x y (other a b) (same c d) = absurd (b (sym d))
-same_flip x y (other a b) (other c d) = a ∙ sym c
-
 way_off_at : (x y : List ℕ) (d q : Names) (b : Bool) → same_name x y ≡ b → same_name y x ≡ b → cond b (cut d q) None ≡ None → (cut d q ≡ None → has_path (ways d) q ≡ (not (is_root q) && is_above q d)) → (b && (is_root q || has_path (ways d) q)) ≡ (b && is_above q d)
 way_off_at x y d q true e f c ih = way_on d q c (ih c)
 way_off_at x y d q false e f c ih = refl
@@ -87,8 +82,8 @@ way_off [] q e = cc
 way_off (x ∷ d) [] e = none_longer x (ways d)
 way_off (x ∷ d) (y ∷ q) e =
     way_first x y d q
-    ∙ way_off_at x y d q (same_name x y) refl (same_flip y x (name_case y x) (name_case x y)) e (way_off d q)
-    ∙ ap (λ b. b && is_above q d) (same_flip x y (name_case x y) (name_case y x))
+    ∙ way_off_at x y d q (same_name x y) refl (same_name-flip y x) e (way_off d q)
+    ∙ ap (λ b. b && is_above q d) (same_name-flip x y)
 
 way_at_end : (d r : Names) → (is_root (d ++ r) || (not (is_root d) && is_root r)) ≡ is_root r
 way_at_end [] [] = refl
@@ -134,7 +129,7 @@ pub landed_below : (s : Tree) (root d : Names) (items : List Item) (t : Tree) (q
     all_landed d (map (content_of true s root) items) t q ≡ landed_from s root (found rel_of items r) (t q)
 landed_below s root d [] t q r a e = refl
 landed_below s root d (x ∷ items) t q r a e =
-    landed_below s root d items (updated t (d ++ rel_of x) (landed_as (content_of true s root x).1)) q r (both_second _ _ a) e
+    landed_below s root d items (updated t (d ++ rel_of x) (landed_as (content_of true s root x).1)) q r (second_so _ _ a) e
     ∙ ap (λ b. landed_from s root (found rel_of items r) (cond b (landed_from s root (Some x) (t q)) (t q))) (same_path-cut d (rel_of x) q r e)
     ∙ once_landed s root x items r (t q) (same_path (rel_of x) r) (λ b. found-once rel_of x items r a b)
 
@@ -145,18 +140,6 @@ landed_off s root d (x ∷ items) t q e =
     ∙ ap (λ b. cond b (landed_as (content_of true s root x).1 (t q)) (t q)) (same_path-not_below d (rel_of x) q e)
 
 -- ---- one path at or under the target
-or_true : (b : Bool) → (b || true) ≡ true
-or_true true = refl
-or_true false = refl
-
-or_false : (b : Bool) → (b || false) ≡ b
-or_false true = refl
-or_false false = refl
-
-pub listed_stands : (b : Bool) (o : Option Node) (n : Node) → cond b None o ≡ Some n → o ≡ Some n
-listed_stands true o n e = absurd (cc)
-listed_stands false o n e = e
-
 -- what is not listed: the target directory is made, and all else stays
 unlisted_at : (d r : Names) (old : Option Node) → (d ≡ [] → r ≡ [] → made old ≡ old) → cond ((not (is_root d) && is_root r) || false) (made old) old ≡ copied None (is_root r) old
 unlisted_at [] [] old same_root = sym (same_root refl refl)
@@ -171,9 +154,9 @@ at_node s root d r old None i l e same_root =
     ∙ unlisted_at d r old same_root
 at_node s root d r old (Some (Dir a)) i l e same_root =
     ap (λ (i : Option Item). landed_from s root (kept is_file_item i) (cond ((not (is_root d) && is_root r) || is_some (kept is_dir_item i)) (made old) old)) e
-    ∙ ap (λ b. cond b (made old) old) (or_true (not (is_root d) && is_root r))
+    ∙ ap (λ b. cond b (made old) old) (or_right (not (is_root d) && is_root r) true refl)
 at_node s root d r old (Some (File b a)) i l e same_root =
-    let stands : s (root ++ r) ≡ Some (File b a) = listed_stands (is_root r || is_hidden r) (s (root ++ r)) (File b a) l in
+    let stands : s (root ++ r) ≡ Some (File b a) = stands_at (is_root r || is_hidden r) (s (root ++ r)) (File b a) l in
     ap (λ (i : Option Item). landed_from s root (kept is_file_item i) (cond ((not (is_root d) && is_root r) || is_some (kept is_dir_item i)) (made old) old)) e
     ∙ ap (λ (n : Option Node). Some (File (take (length b) (file_bytes n)) default_file)) stands
     ∙ ap (λ (bytes : List ℕ). Some (File bytes default_file)) (take-length b)
@@ -189,7 +172,7 @@ same_root_at t d q r dir e f g =
 
 off_target : (t : Tree) (d q : Names) → IsDirAt t [] → cond ((not (is_root q) && is_above q d) || false) (made (t q)) (t q) ≡ cond (is_above q d) (made (t q)) (t q)
 off_target t d [] dir = elim (is_above [] d) as (λ b. t [] ≡ cond b (made (t [])) (t [])) [ true ↦ sym (root_made t dir) | false ↦ refl ]
-off_target t d (y ∷ q) dir = ap (λ b. cond b (made (t (y ∷ q))) (t (y ∷ q))) (or_false (is_above (y ∷ q) d))
+off_target t d (y ∷ q) dir = ap (λ b. cond b (made (t (y ∷ q))) (t (y ∷ q))) (or-false (is_above (y ∷ q) d))
 
 result_by_cut : (s : Tree) (root d : Names) (items : List Item) (t : Tree) (q : Names) (o : Option Names) → cut d q ≡ o → IsDirAt t [] → is_ascending (map rel_of items) ≡ true → AreItems (listed s root) items →
     all_landed d (contents_of true s root items) (all_made (dir_places d items) t) q ≡ at_cut o (cond (is_above q d) (made (t q)) (t q)) (λ rel. copied (listed s root rel) (is_root rel) (t q))

@@ -1,16 +1,16 @@
 -- A run that is done: its result, its effects and its counters.
-use Rattle.std.proofs.Common.{◌≡◌, ◌≤◌, Bool, cond, length, List, [], ◌∷◌, ◌++◌, map, Option, Some, None, IfSome, IsSomeAnd, IsTrue, true, false, Result, Ok, Err, OnOk, IfErr, refl, sym, ap, ◌∙◌, subst}
+use Rattle.std.proofs.Common.{◌≡◌, ◌≤◌, Bool, cond, length, List, [], ◌∷◌, ◌++◌, map, Option, Some, None, IfSome, IsSomeAnd, IsTrue, true, false, Result, Ok, Err, OnOk, IfErr, IsErrAnd, refl, sym, ap, ◌∙◌, subst}
 use Rattle.std.specs.Option.{option_map, is_some}
 use Rattle.std.specs.List.{list_all}
 use Rattle.std.proofs.lemmas.List.{length-map}
 use Rattle.dc_path.specs.Found.{found}
 use Rattle.dc_path.specs.Order.{is_ascending}
-use Rattle.dc_path.specs.Paths.{Names, same_path}
-use Rattle.dc_attrs.specs.Trees.{Node, Dir, File, Tree, IsTree}
+use Rattle.dc_path.specs.Paths.{Names, fits}
+use Rattle.dc_attrs.specs.Trees.{Node, Tree, IsTree}
 use Rattle.dc_fs.specs.Rest.{Rest}
 use Rattle.dc_fs.specs.declared.target.Landed.{Landed}
 use Rattle.dc_cli.specs.Effects.{GainsEffects, AreCounts}
-use Rattle.dc_cli.specs.Items.{rel_of, item_of, fits, fits_under, AreItems}
+use Rattle.dc_cli.specs.Items.{rel_of, item_of, fits_under, AreItems}
 use Rattle.dc_cli.specs.Listed.{Listing, listed}
 use Rattle.dc_cli.specs.Phases.{Content, all_landed, all_made, dir_places, contents_of, counts_from}
 use Rattle.dc_cli.specs.Result.{IsResult, result}
@@ -21,10 +21,12 @@ use Rattle.dc_cli.specs.declared.outcome.Outcome.TheVariants as outcome
 use Rattle.dc_cli.specs.Steps.{effect_of, is_told}
 use Rattle.dc_cli.specs.declared.listing.Item.{Item}
 use Rattle.dc_cli.specs.declared.outcome.Counts.{Counts}
-use Rattle.dc_cli.proofs.EffectLemmas.{effects_are, are_counts, any-found}
-use Rattle.dc_cli.proofs.PartLemmas.{both_first, both_second, both_true}
+use Rattle.dc_cli.proofs.EffectLemmas.{effects_are, are_counts}
 use Rattle.dc_cli.specs.Verdict.{IsListable}
 use Rattle.dc_cli.proofs.ResultLemmas.{result_is, all_are_told}
+use Rattle.dc_path.proofs.FoundLemmas.{any-found, found_passes}
+use Rattle.std.proofs.lemmas.Bool.{and_from}
+use Rattle.dc_cli.proofs.ListingLemmas.{rel_of_item}
 
 -- what was copied, seen from the trees before the run
 pub copied_before : (root : Names) (items : List Item) (files : List Content) (source source_now target target_now : Option Tree) → source_now ≡ source → target_now ≡ target →
@@ -71,24 +73,17 @@ ended_done P (Err x) h s e = let k : is_committed x ≡ true = ap is_committed e
     apart : true ≡ false → ⊥
     apart e = cc
 
+-- what holds of a run that was refused holds of how it ended
+pub ended_due : (P : Outcome → Type 0) (ran : Result Counts Outcome) (e : Outcome) → IsErrAnd ran P → e ≡ ended_as ran → P e
+ended_due P (Ok counts) e h k = absurd h
+ended_due P (Err x) e h k = subst P (sym k) h
+
 -- ---- a listing that is done is within its limits
-first_passes : (test : Item → Bool) (y x : Item) (others : Option Item) (b : Bool) → test y ≡ true → (others ≡ Some x → test x ≡ true) → cond b (Some y) others ≡ Some x → test x ≡ true
-first_passes test y x others true h ih e = let k : y ≡ x = cc in subst (λ (z : Item). test z ≡ true) k h
-first_passes test y x others false h ih e = ih e
-
-found_passes : (test : Item → Bool) (items : List Item) (q : Names) (x : Item) → list_all test items ≡ true → found rel_of items q ≡ Some x → test x ≡ true
-found_passes test [] q x h e = absurd (cc)
-found_passes test (y ∷ items) q x h e = first_passes test y x (found rel_of items q) (same_path (rel_of y) q) (both_first _ _ h) (found_passes test items q x (both_second _ _ h)) e
-
-item_rel : (q : Names) (n : Node) → rel_of (item_of q n) ≡ q
-item_rel q (Dir a) = refl
-item_rel q (File b a) = refl
-
 listed_fits : (listing : Listing) (base : Names) (items : List Item) → list_all (fits_under base) items ≡ true → AreItems listing items → (q : Names) (o : Option Node) → listing q ≡ o → is_some o ≡ true → fits (base ++ q) ≡ true
 listed_fits listing base items h l q None e s = absurd (cc)
 listed_fits listing base items h l q (Some n) e s =
     let k : found rel_of items q ≡ Some (item_of q n) = l q ∙ ap (option_map (item_of q)) e in
-    ap (λ (r : Names). fits (base ++ r)) (sym (item_rel q n)) ∙ found_passes (fits_under base) items q (item_of q n) h k
+    ap (λ (r : Names). fits (base ++ r)) (sym (rel_of_item q n)) ∙ found_passes rel_of (fits_under base) items q (item_of q n) h k
 
 is_some-map : (q : Names) (o : Option Node) → is_some (option_map (item_of q) o) ≡ is_some o
 is_some-map q None = refl
@@ -98,7 +93,7 @@ pub run_listable : (source : Option Tree) (root d : Names) (items : List Item) �
     IfSome source (λ s. IsTree s → AreItems (listed s root) items) → IfSome source (λ s. IsTree s → IsListable (listed s root) root d)
 run_listable None root d items f g h l = tt
 run_listable (Some s) root d items f g h l = λ v. record {
-  fit = λ rel there. both_true _ _ (listed_fits (listed s root) root items f (l v) rel (listed s root rel) refl there) (listed_fits (listed s root) d items g (l v) rel (listed s root rel) refl there);
+  fit = λ rel there. and_from _ _ (listed_fits (listed s root) root items f (l v) rel (listed s root rel) refl there) (listed_fits (listed s root) d items g (l v) rel (listed s root rel) refl there);
   rels = map rel_of items;
   all = λ rel. any-found rel_of items rel ∙ ap is_some (l v rel) ∙ is_some-map rel (listed s root rel);
   few = rw length-map h;

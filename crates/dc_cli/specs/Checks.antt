@@ -1,5 +1,5 @@
 -- What a run looks at before it changes anything, and when it is refused (the order is this project's).
-use Rattle.std.specs.Prelude.{◌≡◌, Bool, true, false, not, Result, Ok, Err, if◌then◌else◌}
+use Rattle.std.specs.Prelude.{◌≡◌, Bool, true, false, not, ◌||◌, Result, Ok, Err, if◌then◌else◌}
 use Rattle.dc_path.specs.Paths.{Names}
 use Rattle.dc_attrs.specs.Trees.{is_hidden}
 use Rattle.dc_attrs.specs.declared.shown.Seen.{Seen}
@@ -55,10 +55,20 @@ abbrev pub is_own_fault : Outcome → Bool
 is_own_fault (outcome.TargetFault phase done) = not (is_copy phase)
 is_own_fault e = false
 
+-- the target failed after the copy
+abbrev pub is_commit_fault : Outcome → Bool
+is_commit_fault (outcome.TargetFault phase done) = not (is_check phase || is_copy phase)
+is_commit_fault e = false
+
 -- the target failed when there could be temporaries
 abbrev pub is_late_fault : Outcome → Bool
 is_late_fault (outcome.TargetFault phase done) = not (is_check phase)
 is_late_fault e = false
+
+-- the words were refused
+abbrev pub is_bad_option : Outcome → Bool
+is_bad_option (outcome.BadOption error) = true
+is_bad_option e = false
 
 abbrev pub is_committed : Outcome → Bool
 is_committed outcome.Committed = true

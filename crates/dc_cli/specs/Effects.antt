@@ -4,10 +4,10 @@ use Rattle.std.specs.List.{list_any, sum_by}
 use Rattle.dc_path.specs.Found.{found}
 use Rattle.dc_path.specs.Order.{is_ascending}
 use Rattle.dc_path.specs.Paths.{Names, cut, at_cut, same_path}
-use Rattle.dc_attrs.specs.Trees.{Node, Dir, File}
+use Rattle.dc_attrs.specs.Trees.{Node, Dir, File, is_dir_node}
 use Rattle.dc_fs.specs.declared.target.Landed.{Landed}
 use Rattle.dc_fs.specs.declared.target.Mode.TheVariants as mode_of
-use Rattle.dc_cli.specs.Listed.{Listing, is_folder}
+use Rattle.dc_cli.specs.Listed.{Listing}
 use Rattle.dc_cli.specs.declared.outcome.Counts.{Counts}
 
 abbrev pub path_of : Landed → Names
@@ -30,7 +30,7 @@ pub record AreEffects (listing : Listing) (target : Names) (effects : List Lande
 -- the listed directories, each once
 pub record AreFolders (listing : Listing) (folders : List Names) : Type 0 where
   pub ascending : IsTrue (is_ascending folders)
-  pub listed : (rel : Names) → list_any (same_path rel) folders ≡ is_folder (listing rel)
+  pub listed : (rel : Names) → list_any (same_path rel) folders ≡ is_dir_node (listing rel)
 
 -- what has landed gained the effects of the run
 abbrev pub GainsEffects : Listing → Names → List Landed → List Landed → Type 0
@@ -58,3 +58,10 @@ pub record AreCounts (listing : Listing) (target : Names) (counts : Counts) : Ty
 -- the counters of a run that did not commit
 abbrev pub none_counted : Counts
 none_counted = record { copied = 0; dirs = 0; skipped = 0; failed = 0; bytes_copied = 0; bytes_skipped = 0 }
+
+-- what has landed gained as many files and bytes as are counted, told or not
+pub record Gains (counts : Counts) (old new : List Landed) : Type 0 where
+  pub effects : List Landed
+  pub landed : new ≡ old ++ effects
+  pub files : length effects ≡ counts.copied
+  pub bytes : sum_by bytes_of effects ≡ counts.bytes_copied

@@ -1,8 +1,8 @@
 -- A list of items that is the listing.
-use Rattle.std.specs.Prelude.{◌≡◌, Bool, true, false, List, ◌++◌, length, nat_le, ◌&&◌}
+use Rattle.std.specs.Prelude.{◌≡◌, Bool, true, false, List, ◌++◌, length}
 use Rattle.std.specs.Option.{option_map}
 use Rattle.dc_path.specs.Found.{found}
-use Rattle.dc_path.specs.Paths.{Names, joined}
+use Rattle.dc_path.specs.Paths.{Names, fits}
 use Rattle.dc_attrs.specs.Trees.{Node, Dir, File}
 use Rattle.dc_cli.specs.Listed.{Listing}
 use Rattle.dc_cli.specs.declared.listing.Item.{Item}
@@ -14,15 +14,6 @@ rel_of item = item.rel
 abbrev pub item_of : Names → Node → Item
 item_of rel (Dir a) = record { rel = rel; dir = true; length = 0 }
 item_of rel (File b a) = record { rel = rel; dir = false; length = length b }
-
--- a path within the limits: 256 names, and 4,096 bytes
-abbrev pub fits : Names → Bool
-fits path = nat_le (length path) 256 && nat_le (length (joined path)) 4096
-
--- whether a node is a directory
-abbrev pub is_dir : Node → Bool
-is_dir (Dir a) = true
-is_dir (File b a) = false
 
 -- the item's place under the base is within the limits of a path
 abbrev pub fits_under : Names → Item → Bool

@@ -4,6 +4,7 @@ pub mod Walks
 pub mod Walking
 pub mod Result
 pub mod Effects
+pub mod Laws
 pub mod Phases
 pub mod Ready
 pub mod Readable
@@ -20,3 +21,4 @@ pub mod Verdict
 pub mod During
 pub mod Drills
 pub mod DrillSteps
+pub mod Surveys

@@ -1,11 +1,10 @@
 -- Trees in which directories can be made and files can land (POSIX.1, mkdir and open).
 use Rattle.std.specs.Prelude.{◌≡◌, Bool, true, false, List, [], ◌∷◌, ◌++◌, Option, Some, None, ⊤}
-use Rattle.dc_path.specs.Paths.{Names}
+use Rattle.dc_path.specs.Paths.{Names, fits}
 use Rattle.dc_attrs.specs.Trees.{Tree, updated, made}
 use Rattle.dc_attrs.specs.Refusals.{refused_dir, refused_put}
 use Rattle.dc_attrs.specs.declared.refusals.TreeError.{TreeError}
 use Rattle.dc_attrs.specs.declared.refusals.TreeError.TheVariants as tree_error
-use Rattle.dc_cli.specs.Items.{fits}
 use Rattle.dc_cli.specs.Phases.{Content, dir_places, landed_as}
 use Rattle.dc_cli.specs.Steps.{is_told}
 use Rattle.dc_cli.specs.declared.commit.StepError.{StepError}

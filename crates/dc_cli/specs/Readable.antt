@@ -1,10 +1,10 @@
 -- What a told source shows of the items whose files are copied.
 use Rattle.std.specs.Prelude.{◌≡◌, ℕ, Bool, true, false, List, ◌++◌, length, Some}
 use Rattle.std.specs.List.{All}
-use Rattle.dc_path.specs.Paths.{Names}
+use Rattle.dc_path.specs.Paths.{Names, fits}
 use Rattle.dc_attrs.specs.Trees.{Tree, seen, bytes_of}
 use Rattle.dc_attrs.specs.declared.shown.Seen.TheVariants as seen_as
-use Rattle.dc_cli.specs.Items.{rel_of, fits}
+use Rattle.dc_cli.specs.Items.{rel_of}
 use Rattle.dc_cli.specs.declared.copying.CopyError.{CopyError}
 use Rattle.dc_cli.specs.declared.copying.CopyError.TheVariants as copy_error
 use Rattle.dc_cli.specs.declared.listing.Item.{Item}

@@ -1,6 +1,6 @@
 -- What the parts of a commit leave.
-use Rattle.std.specs.Prelude.{◌≡◌, ℕ, ◌+◌, Bool, true, false, List, [], ◌∷◌, ◌++◌, map, length, Option, Some, None, IsTrue}
-use Rattle.std.specs.Option.{option_map, is_some}
+use Rattle.std.specs.Prelude.{◌≡◌, ℕ, ◌+◌, Bool, true, false, List, [], ◌∷◌, ◌++◌, map, length, Option, IsTrue}
+use Rattle.std.specs.Option.{option_map, option_map_or, is_some}
 use Rattle.std.specs.List.{list_all}
 use Rattle.dc_path.specs.Paths.{Names}
 use Rattle.dc_attrs.specs.Trees.{Tree, updated}
@@ -18,8 +18,7 @@ is_step_fault (step_error.Memory done) = false
 
 -- the number of bytes of what is told, and none of what is not
 abbrev pub told_length : Option (List ℕ) → ℕ
-told_length None = 0
-told_length (Some bytes) = length bytes
+told_length told = option_map_or length told 0
 
 -- what is recorded of a file that has landed
 abbrev pub effect_of : Names → Content → Landed

@@ -50,6 +50,11 @@ CommitStops target items files old new before after phase k = ⊥
 abbrev pub NotBegun : Phase → Phase → ℕ → Type 0
 NotBegun before phase k = (phase ≡ before) × (k ≡ 0)
 
+-- as many desks are out as before, and desks have failed as often
+pub record KeepsDesks (old new : Rest) : Type 0 where
+  pub out : new.desks_out ≡ old.desks_out
+  pub faults : new.desk_faults ≡ old.desk_faults
+
 -- no temporary is left, or the target failed besides
 abbrev pub IsCleared : ℕ → ℕ → ℕ → Type 0
 IsCleared scratch before now = (scratch ≡ 0) ⊎ Rose before now

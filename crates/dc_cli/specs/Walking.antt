@@ -5,9 +5,9 @@ use Rattle.std.specs.List.{list_any, list_all}
 use Rattle.dc_path.specs.Found.{found}
 use Rattle.dc_path.specs.Names.{same_name}
 use Rattle.dc_path.specs.Order.{path_lt, is_after, all_below, is_ascending}
-use Rattle.dc_path.specs.Paths.{Names, joined, cut, at_cut}
-use Rattle.dc_attrs.specs.Trees.{Node, Tree, IsTree, IsThere, IsDirAt}
-use Rattle.dc_cli.specs.Items.{rel_of, item_of, fits, fits_under, is_dir}
+use Rattle.dc_path.specs.Paths.{Names, joined, cut, at_cut, fits}
+use Rattle.dc_attrs.specs.Trees.{Node, Tree, IsTree, IsThere, IsDirAt, is_dir}
+use Rattle.dc_cli.specs.Items.{rel_of, item_of, fits_under}
 use Rattle.dc_cli.specs.Listed.{Listing, listed}
 use Rattle.dc_cli.specs.declared.listing.Item.{Item}
 use Rattle.dc_cli.specs.declared.listing.Place.{Place}

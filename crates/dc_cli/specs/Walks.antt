@@ -3,8 +3,7 @@ use Rattle.std.specs.Prelude.{◌≡◌, ℕ, ◌≤◌, Bool, false, cond, List
 use Rattle.std.specs.Option.{is_some}
 use Rattle.std.specs.List.{list_any}
 use Rattle.dc_path.specs.Order.{path_lt, is_ascending}
-use Rattle.dc_path.specs.Paths.{Names, same_path}
-use Rattle.dc_cli.specs.Items.{fits}
+use Rattle.dc_path.specs.Paths.{Names, same_path, fits}
 use Rattle.dc_cli.specs.Listed.{Listing}
 use Rattle.dc_cli.specs.declared.listing.ListError.{ListError}
 use Rattle.dc_cli.specs.declared.listing.ListError.TheVariants as list_error

@@ -1,15 +1,11 @@
 -- What words ask for (Hadoop DistCp, "Command Line Options"; the order of refusals is this project's).
-use Rattle.std.specs.Prelude.{◌≡◌, ℕ, Bool, false, List, [], ◌∷◌, length, nat_lt, ◌==◌, Result, Ok, Err, if◌then◌else◌}
+use Rattle.std.specs.Prelude.{◌≡◌, ℕ, List, [], ◌∷◌, length, nat_lt, Result, Ok, Err, if◌then◌else◌}
 use Rattle.dc_path.specs.Paths.{Names}
 use Rattle.dc_path.specs.Reading.{path_from}
 use Rattle.dc_path.specs.declared.path.PathError.{PathError}
 use Rattle.dc_cli.specs.declared.outcome.OptionError.{OptionError}
 use Rattle.dc_cli.specs.declared.outcome.OptionError.TheVariants.{UnknownOption, BadPath, NoPaths}
-
--- a word that begins with `-` is an option, and none is known
-abbrev pub is_option : List ℕ → Bool
-is_option [] = false
-is_option (byte ∷ word) = byte == 45
+use Rattle.dc_path.specs.Words.{is_dashed}
 
 abbrev pub as_path : List ℕ → Result Names PathError → Result Names OptionError
 as_path word (Ok path) = Ok path
@@ -17,7 +13,7 @@ as_path word (Err e) = Err (BadPath word)
 
 -- the path that one word is
 abbrev pub read_word : List ℕ → Result Names OptionError
-read_word word = if is_option word then Err (UnknownOption word) else as_path word (path_from word)
+read_word word = if is_dashed word then Err (UnknownOption word) else as_path word (path_from word)
 
 abbrev pub with_path : Names → Result (List Names) OptionError → Result (List Names) OptionError
 with_path path (Ok paths) = Ok (path ∷ paths)

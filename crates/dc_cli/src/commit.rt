@@ -1,17 +1,17 @@
 //! What a run does to the target: directories are made, files land, temporaries are swept.
 #![tactic(auto)]
 
-ghost use Rattle.std.specs.Prelude.{◌≡◌, ℕ, ◌+◌, ◌^◌, ◌<◌, ◌≤◌, ◌++◌, map, take, length, true, false, IfOk, IfErr, IfSome, OnOk, OnErr, IsErrOf};
+ghost use Rattle.std.specs.Prelude.{◌≡◌, ℕ, ◌+◌, ◌^◌, ◌<◌, ◌≤◌, ◌++◌, ◌∷◌, [], map, take, length, true, false, IfOk, IfErr, IfSome, OnOk, OnErr, IsErrOf};
 ghost use Rattle.std.specs.Option.{option_map};
 ghost use Rattle.dc_attrs.specs.Trees.{updated, made};
 ghost use Rattle.dc_fs.specs.Answers.{Changes, is_refusal};
-ghost use Rattle.dc_fs.specs.Causes.{Rose, HasCause};
+ghost use Rattle.dc_fs.specs.Causes.{Rose, HasCause, steady_at};
 ghost use Rattle.dc_cli.specs.Phases.{ways, dir_places, folder_places, all_made};
-ghost use Rattle.dc_cli.specs.Items.{fits};
 ghost use Rattle.dc_cli.specs.Makeable.{is_step_changed, CanMakeAt, CanMake, CanMakeAll, CanLandAt, CanLandAll};
-ghost use Rattle.dc_cli.specs.Ready.{content_in};
+ghost use Rattle.dc_cli.specs.Ready.{content_in, sized_in, sized_effect};
 ghost use Rattle.dc_cli.specs.Steps.{is_step_fault, LandsAll, Landing};
-ghost use Rattle.dc_cli.specs.Stops.{StopsAfter, MadeUpTo, Behind, LandedUpTo};
+ghost use Rattle.dc_cli.specs.Stops.{StopsAfter, MadeUpTo, Behind, LandedUpTo, KeepsDesks};
+ghost use Rattle.dc_path.specs.Paths.{fits};
 
 use crate::copying::Ready;
 use crate::listing::Item;
@@ -65,6 +65,7 @@ fn make_place<T: Target>(alloc: Global, target: &mut T, place: &Path) -> Result<
     ensures changed { IfErr result (λ e. is_refusal e ≡ true → IfSome (T.tree target.old) (λ t. CanMakeAt t place.now → ⊥)) }
     ensures rest { T.rest target.new ≡ T.rest target.old }
     ensures cause { HasCause (T.faults target.old) (T.faults target.new) result WriteError.Fault }
+    ensures calm { steady_at (T.steady target.new) (T.faults target.new) ≡ steady_at (T.steady target.old) (T.faults target.old) }
 {
     match target.make_dir(alloc, place) {
         Ok(()) => Ok(()),
@@ -80,6 +81,7 @@ fn make_way<T: Target>(alloc: Global, target: &mut T, place: &Path) -> Result<()
     ensures changed { IfErr result (λ e. is_step_changed e ≡ true → IfSome (T.tree target.old) (λ t. CanMake t (ways place.now) → ⊥)) }
     ensures rest { T.rest target.new ≡ T.rest target.old }
     ensures later { T.faults target.old ≤ T.faults target.new }
+    ensures calm { steady_at (T.steady target.new) (T.faults target.new) ≡ steady_at (T.steady target.old) (T.faults target.old) }
     ensures cause { IfErr result (λ e. is_step_fault e ≡ true → Rose (T.faults target.old) (T.faults target.new)) }
     ensures still { OnOk result (T.faults target.new ≡ T.faults target.old) }
 {
@@ -126,6 +128,7 @@ fn make_item<T: Target>(
     ensures changed { IfErr result (λ e. is_refusal e ≡ true → IfSome (T.tree target.old) (λ t. CanMakeAt t (base.now ++ item.now.rel) → ⊥)) }
     ensures rest { T.rest target.new ≡ T.rest target.old }
     ensures cause { HasCause (T.faults target.old) (T.faults target.new) result WriteError.Fault }
+    ensures calm { steady_at (T.steady target.new) (T.faults target.new) ≡ steady_at (T.steady target.old) (T.faults target.old) }
 {
     let place = place_under(alloc, base, &item.rel)?;
     make_place(alloc, target, &place)
@@ -145,6 +148,7 @@ fn make_items<T: Target>(
     ensures changed { IfErr result (λ e. is_step_changed e ≡ true → IfSome (T.tree target.old) (λ t. CanMake t (folder_places base.now items.now) → ⊥)) }
     ensures rest { T.rest target.new ≡ T.rest target.old }
     ensures later { T.faults target.old ≤ T.faults target.new }
+    ensures calm { steady_at (T.steady target.new) (T.faults target.new) ≡ steady_at (T.steady target.old) (T.faults target.old) }
     ensures cause { IfErr result (λ e. is_step_fault e ≡ true → Rose (T.faults target.old) (T.faults target.new)) }
     ensures still { OnOk result (T.faults target.new ≡ T.faults target.old) }
 {
@@ -174,6 +178,7 @@ pub fn make_dirs<T: Target>(
     ensures changed { IfErr result (λ e. is_step_changed e ≡ true → IfSome (T.tree target.old) (λ t. CanMakeAll t place.now items.now → ⊥)) }
     ensures rest { T.rest target.new ≡ T.rest target.old }
     ensures later { T.faults target.old ≤ T.faults target.new }
+    ensures calm { steady_at (T.steady target.new) (T.faults target.new) ≡ steady_at (T.steady target.old) (T.faults target.old) }
     ensures cause { IfErr result (λ e. is_step_fault e ≡ true → Rose (T.faults target.old) (T.faults target.new)) }
     ensures still { OnOk result (T.faults target.new ≡ T.faults target.old) }
 {
@@ -192,10 +197,12 @@ fn land_one<T: Target>(
     requires { 1 ≤ (T.rest target.old).scratch }
     ensures ok { OnOk result (Landing base.now (content_in T.Desk.Temp.content file) (T.tree target.old) (T.tree target.new) (T.rest target.old) (T.rest target.new)) }
     ensures changed { IfErr result (λ e. is_refusal e ≡ true → IfSome (T.tree target.old) (λ t. CanLandAt t base.now (content_in T.Desk.Temp.content file) → ⊥)) }
+    ensures sized { OnOk result ((T.rest target.new).landed ≡ (T.rest target.old).landed ++ sized_effect base.now (sized_in T.Desk.Temp.size file) ∷ []) }
     ensures kept { OnErr result (T.rest target.new ≡ T.rest target.old) }
     ensures kept_tree { OnErr result (T.tree target.new ≡ T.tree target.old) }
-    ensures desks { (T.rest target.new).desk_faults ≡ (T.rest target.old).desk_faults }
+    ensures desks { KeepsDesks (T.rest target.old) (T.rest target.new) }
     ensures cause { HasCause (T.faults target.old) (T.faults target.new) result WriteError.Fault }
+    ensures calm { steady_at (T.steady target.new) (T.faults target.new) ≡ steady_at (T.steady target.old) (T.faults target.old) }
 {
     let Ready { rel, part } = file;
     let place = place_under(alloc, base, &rel)?;
@@ -217,10 +224,12 @@ pub fn land_all<T: Target>(
     requires few { length files.items < 2 ^ 64 }
     requires counted { length files.items ≤ (T.rest target.old).scratch }
     ensures ok { OnOk result (LandsAll base.now (map (content_in T.Desk.Temp.content) files.items) (T.tree target.old) (T.tree target.new) (T.rest target.old) (T.rest target.new)) }
-    ensures desks { (T.rest target.new).desk_faults ≡ (T.rest target.old).desk_faults }
+    ensures desks { KeepsDesks (T.rest target.old) (T.rest target.new) }
+    ensures sized { OnOk result ((T.rest target.new).landed ≡ (T.rest target.old).landed ++ map (sized_effect base.now) (map (sized_in T.Desk.Temp.size) files.items)) }
     ensures stops { IfErr result (StopsAfter (LandedUpTo base.now (map (content_in T.Desk.Temp.content) files.items) (T.tree target.old) (T.tree target.new) (T.rest target.old) (T.rest target.new))) }
     ensures changed { IfErr result (λ e. is_step_changed e ≡ true → IfSome (T.tree target.old) (λ t. CanLandAll t base.now (map (content_in T.Desk.Temp.content) files.items) → ⊥)) }
     ensures later { T.faults target.old ≤ T.faults target.new }
+    ensures calm { steady_at (T.steady target.new) (T.faults target.new) ≡ steady_at (T.steady target.old) (T.faults target.old) }
     ensures cause { IfErr result (λ e. is_step_fault e ≡ true → Rose (T.faults target.old) (T.faults target.new)) }
     ensures still { OnOk result (T.faults target.new ≡ T.faults target.old) }
 {

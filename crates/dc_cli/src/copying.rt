@@ -2,11 +2,11 @@
 #![tactic(auto)]
 
 ghost use Rattle.std.specs.Prelude.{◌≡◌, ℕ, ◌+◌, ◌<◌, ◌≤◌, [], ◌++◌, map, filter, take, drop, length, Some, None, IsSome, IfOk, IfErr, IfSome, OnOk, IsErrOf, true, false};
-ghost use Rattle.dc_fs.specs.Causes.{raised, counted, HasCause};
+ghost use Rattle.dc_fs.specs.Causes.{raised, counted, HasCause, steady_at};
 ghost use Rattle.dc_fs.specs.Temporaries.{told_if, more};
 ghost use Rattle.dc_cli.specs.Phases.{file_bytes, is_file_item, contents_of, content_of};
 ghost use Rattle.dc_cli.specs.Readable.{is_changed, HasFile, IsReadable, AllReadable};
-ghost use Rattle.dc_cli.specs.Ready.{content_in, is_fault};
+ghost use Rattle.dc_cli.specs.Ready.{content_in, sized_in, sized_of, is_fault};
 
 use crate::listing::Item;
 use dc_fs::{Desk, DeskError, ReadError, Store};
@@ -92,6 +92,7 @@ fn read_whole<S: Store>(
     ensures tree { S.tree source.new ≡ S.tree source.old }
     ensures rest { S.rest source.new ≡ S.rest source.old }
     ensures cause { HasCause (S.faults source.old) (S.faults source.new) result CopyError.SourceFault }
+    ensures calm { steady_at (S.steady source.new) (S.faults source.new) ≡ steady_at (S.steady source.old) (S.faults source.old) }
     ensures no_desk { IsErrOf result CopyError.DeskFault → ⊥ }
     ensures read { OnOk result (IfSome (S.tree source.old) (λ s. into.new ≡ take (length into.new) (drop at (file_bytes (s path.now))))) }
     ensures changed { IfErr result (λ e. is_changed e ≡ true → IfSome (S.tree source.old) (λ s. (size : ℕ) → HasFile s path.now size → at + length into.old ≤ size → ⊥)) }
@@ -123,7 +124,10 @@ fn copy_piece<S: Store, D: Desk>(
     ensures tells { D.tells desk.new ≡ D.tells desk.old }
     ensures made { D.made desk.new ≡ D.made desk.old }
     ensures cause { HasCause (S.faults source.old) (S.faults source.new) result CopyError.SourceFault }
+    ensures calm { steady_at (S.steady source.new) (S.faults source.new) ≡ steady_at (S.steady source.old) (S.faults source.old) }
     ensures desk_cause { HasCause (D.faults desk.old) (D.faults desk.new) result CopyError.DeskFault }
+    ensures desk_calm { steady_at (D.steady desk.new) (D.faults desk.new) ≡ steady_at (D.steady desk.old) (D.faults desk.old) }
+    ensures sized { OnOk result (D.size desk.new ≡ D.size desk.old + length into.new) }
     ensures working { OnOk result (IsSome (D.current desk.new)) }
     ensures copied { OnOk result (IfSome (S.tree source.old) (λ s. D.current desk.new ≡ more (take (length into.new) (drop at (file_bytes (s path.now)))) (D.current desk.old))) }
     ensures changed { IfErr result (λ e. is_changed e ≡ true → IfSome (S.tree source.old) (λ s. (size : ℕ) → HasFile s path.now size → at + length into.old ≤ size → ⊥)) }
@@ -143,13 +147,17 @@ fn copy_pieces<S: Store, D: Desk>(
     buffer: &mut [u8],
 ) -> Result<(), CopyError>
     requires room { 0 < length buffer.old }
+    requires nothing { D.size desk.old ≡ 0 }
     requires empty { D.current desk.old ≡ Some (told_if (D.tells desk.old) []) }
     ensures tree { S.tree source.new ≡ S.tree source.old }
     ensures rest { S.rest source.new ≡ S.rest source.old }
     ensures tells { D.tells desk.new ≡ D.tells desk.old }
     ensures made { D.made desk.new ≡ D.made desk.old }
     ensures cause { HasCause (S.faults source.old) (S.faults source.new) result CopyError.SourceFault }
+    ensures calm { steady_at (S.steady source.new) (S.faults source.new) ≡ steady_at (S.steady source.old) (S.faults source.old) }
     ensures desk_cause { HasCause (D.faults desk.old) (D.faults desk.new) result CopyError.DeskFault }
+    ensures desk_calm { steady_at (D.steady desk.new) (D.faults desk.new) ≡ steady_at (D.steady desk.old) (D.faults desk.old) }
+    ensures sized { OnOk result (D.size desk.new ≡ size) }
     ensures working { OnOk result (IsSome (D.current desk.new)) }
     ensures copied { OnOk result (IfSome (S.tree source.old) (λ s. D.current desk.new ≡ Some (told_if (D.tells desk.old) (take size (file_bytes (s path.now)))))) }
     ensures changed { IfErr result (λ e. is_changed e ≡ true → IfSome (S.tree source.old) (λ s. HasFile s path.now size → ⊥)) }
@@ -180,7 +188,10 @@ pub fn copy_file<S: Store, D: Desk>(
     ensures tells { D.tells desk.new ≡ D.tells desk.old }
     ensures made { OnOk result (D.made desk.new ≡ raised (D.made desk.old)) }
     ensures cause { HasCause (S.faults source.old) (S.faults source.new) result CopyError.SourceFault }
+    ensures calm { steady_at (S.steady source.new) (S.faults source.new) ≡ steady_at (S.steady source.old) (S.faults source.old) }
     ensures desk_cause { HasCause (D.faults desk.old) (D.faults desk.new) result CopyError.DeskFault }
+    ensures desk_calm { steady_at (D.steady desk.new) (D.faults desk.new) ≡ steady_at (D.steady desk.old) (D.faults desk.old) }
+    ensures sized { IfOk result (λ temp. D.Temp.size temp ≡ size) }
     ensures copied { IfOk result (λ temp. IfSome (S.tree source.old) (λ s. D.Temp.content temp ≡ told_if (D.tells desk.old) (take size (file_bytes (s path.now))))) }
     ensures changed { IfErr result (λ e. is_changed e ≡ true → IfSome (S.tree source.old) (λ s. HasFile s path.now size → ⊥)) }
 {
@@ -205,7 +216,10 @@ fn copy_item<S: Store, D: Desk>(
     ensures tells { D.tells desk.new ≡ D.tells desk.old }
     ensures made { OnOk result (D.made desk.new ≡ raised (D.made desk.old)) }
     ensures cause { HasCause (S.faults source.old) (S.faults source.new) result CopyError.SourceFault }
+    ensures calm { steady_at (S.steady source.new) (S.faults source.new) ≡ steady_at (S.steady source.old) (S.faults source.old) }
     ensures desk_cause { HasCause (D.faults desk.old) (D.faults desk.new) result CopyError.DeskFault }
+    ensures desk_calm { steady_at (D.steady desk.new) (D.faults desk.new) ≡ steady_at (D.steady desk.old) (D.faults desk.old) }
+    ensures sized { IfOk result (λ file. sized_in D.Temp.size file ≡ sized_of item.now) }
     ensures copied { IfOk result (λ file. IfSome (S.tree source.old) (λ s. content_in D.Temp.content file ≡ content_of (D.tells desk.old) s root.now item.now)) }
     ensures changed { IfErr result (λ e. is_changed e ≡ true → IfSome (S.tree source.old) (λ s. IsReadable s root.now item.now → ⊥)) }
 {
@@ -236,7 +250,10 @@ pub fn copy_files<S: Store, D: Desk>(
     ensures few { IfOk result (λ files. length files.items ≤ length items.now) }
     ensures made { IfOk result (λ files. counted (D.made desk.old) (length files.items) ≤ D.made desk.new) }
     ensures cause { HasCause (S.faults source.old) (S.faults source.new) result CopyError.SourceFault }
+    ensures calm { steady_at (S.steady source.new) (S.faults source.new) ≡ steady_at (S.steady source.old) (S.faults source.old) }
     ensures desk_cause { HasCause (D.faults desk.old) (D.faults desk.new) result CopyError.DeskFault }
+    ensures desk_calm { steady_at (D.steady desk.new) (D.faults desk.new) ≡ steady_at (D.steady desk.old) (D.faults desk.old) }
+    ensures sized { IfOk result (λ files. map (sized_in D.Temp.size) files.items ≡ map sized_of (filter is_file_item items.now)) }
     ensures copied { IfOk result (λ files. IfSome (S.tree source.old) (λ s. map (content_in D.Temp.content) files.items ≡ contents_of (D.tells desk.old) s root.now items.now)) }
     ensures changed { IfErr result (λ e. is_changed e ≡ true → IfSome (S.tree source.old) (λ s. AllReadable s root.now items.now → ⊥)) }
 {

@@ -1,13 +1,13 @@
 //! The drill: a run over stores in memory, with a source that two numbers make.
 #![tactic(auto)]
 
-ghost use Rattle.std.specs.Prelude.{◌≡◌, ◌%◌, ◌≢◌, ◌≤◌, ◌<◌, ◌⊎◌, ◌↔◌, ◌++◌, ◌∷◌, [], true, false, codes, map, min, Ok, IfOk, OnOk};
+ghost use Rattle.std.specs.Prelude.{◌≡◌, ℕ, ◌%◌, ◌≢◌, ◌≤◌, ◌<◌, ◌⊎◌, ◌↔◌, ◌++◌, ◌∷◌, [], true, false, codes, map, min, None, Ok, IfOk, OnOk};
 ghost use Rattle.std.specs.List.{range_with_len};
 ghost use Rattle.std.specs.Fmt.{decimal};
 ghost use Rattle.std.specs.Option.{option_map};
 ghost use Rattle.dc_path.specs.Reading.{path_from};
-ghost use Rattle.dc_attrs.specs.Attributes.{default_file};
-ghost use Rattle.dc_attrs.specs.Trees.{File, with_node};
+ghost use Rattle.dc_attrs.specs.Attributes.{default_file, default_dir};
+ghost use Rattle.dc_attrs.specs.Trees.{Dir, File, with_node};
 ghost use Rattle.dc_fs.specs.Causes.{Rose};
 ghost use Rattle.dc_tree.specs.Arena.{tree_of};
 ghost use Rattle.dc_cli.specs.Checks.{is_committed};
@@ -48,7 +48,7 @@ const TARGET: &str = "/dst";
 pub enum Drilled {
     /// The run committed.
     Reached,
-    /// The run ended in another way, and neither for want of memory nor of the sink.
+    /// The run ended in another way, and neither for want of memory nor of the sink. No drill ends so.
     NotReached,
     /// There would be fewer than 2 or more than 200,000 files. Nothing was done.
     BadCount,
@@ -213,6 +213,7 @@ struct Setup {
 // Makes ready what the run needs.
 fn set_up(alloc: Global, seed: u64, count: u32) -> Result<Setup, OutOfMemory>
     ensures source { IfOk result (λ setup. tree_of setup.source ≡ drill_tree seed count) }
+    ensures target { IfOk result (λ setup. tree_of setup.target ≡ with_node (λ _. None) [] (Dir default_dir)) }
     ensures words { IfOk result (λ setup. setup.words ≡ codes "/src/.snapshot/s1" ∷ codes "/dst" ∷ []) }
 {
     Ok(Setup {
@@ -225,6 +226,7 @@ fn set_up(alloc: Global, seed: u64, count: u32) -> Result<Setup, OutOfMemory>
 // Runs over stores in memory, and prints.
 fn run_setup<R: Threads + Sync, O: Sink>(rt: &R, alloc: Global, setup: Setup, out: &mut O) -> Answer
     requires { setup.words ≡ codes "/src/.snapshot/s1" ∷ codes "/dst" ∷ [] }
+    ensures ended { (seed count : ℕ) → count ≤ 200000 → tree_of setup.source ≡ drill_tree seed count → tree_of setup.target ≡ with_node (λ _. None) [] (Dir default_dir) → (result.outcome ≡ Outcome.Committed) ⊎ (result.outcome ≡ Outcome.Memory) }
     ensures counts { result.outcome ≡ Outcome.Committed → AreCounts (listed (tree_of setup.source) drill_source) drill_target result.counts }
     ensures printed { result.printed ≡ true → O.bytes out.new ≡ option_map (λ old. old ++ lines result.outcome result.counts) (O.bytes out.old) }
     ensures no_counts { is_committed result.outcome ≡ false → result.counts ≡ none_counted }
@@ -264,7 +266,7 @@ fn print_no_memory<O: Sink>(out: &mut O) -> Answer
 // What a run's answer makes of a drill.
 fn drilled_by(answer: &Answer) -> Drilled
     ensures reached { result ≡ Drilled.Reached → (answer.now.outcome ≡ Outcome.Committed) × (answer.now.printed ≡ true) }
-    ensures not_reached { result ≡ Drilled.NotReached → (is_committed answer.now.outcome ≡ false) × (answer.now.printed ≡ true) }
+    ensures other { result ≡ Drilled.NotReached → (answer.now.outcome ≡ Outcome.Committed) ⊎ (answer.now.outcome ≡ Outcome.Memory) → ⊥ }
     ensures memory { result ≡ Drilled.Memory → (answer.now.outcome ≡ Outcome.Memory) × (answer.now.printed ≡ true) }
     ensures unprinted { result ≡ Drilled.Unprinted → answer.now.printed ≡ false }
     ensures done { result ≢ Drilled.BadCount }
@@ -291,9 +293,10 @@ pub fn drill<R: Threads + Sync, O: Sink>(
     ensures bad_count { (result ≡ Drilled.BadCount) ↔ ((count < 2) ⊎ (200000 < count)) }
     ensures untouched { result ≡ Drilled.BadCount → out.new ≡ out.old }
 
-    // A drill that is reached has printed the counters of its files and directories; one that is not, why not.
+    // A drill that is reached has printed the counters of its files and directories. Its stores never fail, so only the sink and
+    // want of memory keep it from that.
     ensures reached { result ≡ Drilled.Reached → (counts : Counts) × AreCounts (listed (drill_tree seed count) drill_source) drill_target counts × (O.bytes out.new ≡ option_map (λ old. old ++ lines Outcome.Committed counts) (O.bytes out.old)) }
-    ensures not_reached { result ≡ Drilled.NotReached → (outcome : Outcome) × (is_committed outcome ≡ false) × (O.bytes out.new ≡ option_map (λ old. old ++ lines outcome none_counted) (O.bytes out.old)) }
+    ensures never { result ≢ Drilled.NotReached }
     ensures memory { result ≡ Drilled.Memory → O.bytes out.new ≡ option_map (λ old. old ++ lines Outcome.Memory none_counted) (O.bytes out.old) }
 
     ensures unprinted { result ≡ Drilled.Unprinted → Rose (O.faults out.old) (O.faults out.new) }

@@ -1,22 +1,23 @@
 //! A run: what is copied from the source directory to the target, and what the target is left as.
 #![tactic(auto)]
 
-ghost use Rattle.std.specs.Prelude.{◌≡◌, ◌≤◌, ◌⊎◌, true, false, map, filter, length, Ok, IfOk, IfErr, IfSome, OnOk, OnErr};
+ghost use Rattle.std.specs.Prelude.{◌≡◌, ◌≤◌, ◌⊎◌, true, false, ◌++◌, map, filter, length, Ok, IfOk, IfErr, IfSome, OnOk, OnErr};
 ghost use Rattle.std.specs.List.{sum_by};
 ghost use Rattle.std.specs.Option.{is_some};
 ghost use Rattle.dc_attrs.specs.Trees.{IsTree, seen};
-ghost use Rattle.dc_fs.specs.Causes.{Rose};
-ghost use Rattle.dc_cli.specs.Checks.{checked, is_committed, is_target_fault, is_copy_fault, is_own_fault, is_late_fault};
+ghost use Rattle.dc_fs.specs.Causes.{Rose, raised, steady_at, IsSteady};
+ghost use Rattle.dc_fs.specs.Rest.{with_desk_out};
+ghost use Rattle.dc_cli.specs.Checks.{checked, is_bad_option, is_committed, is_target_fault, is_copy_fault, is_own_fault, is_late_fault, is_commit_fault};
 ghost use Rattle.dc_cli.specs.Verdict.{is_decided, is_denied, IsRefused, IsListable};
-ghost use Rattle.dc_cli.specs.Effects.{GainsEffects, AreCounts};
+ghost use Rattle.dc_cli.specs.Effects.{Gains, GainsEffects, AreCounts};
 ghost use Rattle.dc_cli.specs.Listed.{listed};
 ghost use Rattle.dc_cli.specs.Phases.{all_made, dir_places, contents_of, counts_from, is_file_item, is_dir_item, length_of};
 ghost use Rattle.dc_cli.specs.Makeable.{CanMakeAll, CanLandAll};
 ghost use Rattle.dc_cli.specs.Readable.{AllReadable};
-ghost use Rattle.dc_cli.specs.Ready.{content_in};
+ghost use Rattle.dc_cli.specs.Ready.{content_in, sized_in, sized_of, sized_effect};
 ghost use Rattle.dc_cli.specs.Result.{IsResult};
 ghost use Rattle.dc_cli.specs.During.{During, EndsIn};
-ghost use Rattle.dc_cli.specs.Stops.{CommitStops, NotBegun, IsCleared};
+ghost use Rattle.dc_cli.specs.Stops.{CommitStops, NotBegun, KeepsDesks, IsCleared};
 ghost use Rattle.dc_cli.specs.Runs.{outcome_of_copy, outcome_of_opening, outcome_of_step, Finishes};
 
 use crate::commit::{StepError, land_all, make_dirs};
@@ -75,14 +76,17 @@ fn unopened(error: WriteError) -> Outcome
 // Opens a desk of the target.
 fn open_desk<T: Target>(alloc: Global, target: &mut T) -> Result<T::Desk, Outcome>
     ensures tree { T.tree target.new ≡ T.tree target.old }
-    ensures rest { T.rest target.new ≡ T.rest target.old }
+    ensures opened { OnOk result (T.rest target.new ≡ with_desk_out (T.rest target.old)) }
+    ensures kept { OnErr result (T.rest target.new ≡ T.rest target.old) }
     ensures later { T.faults target.old ≤ T.faults target.new }
+    ensures calm { steady_at (T.steady target.new) (T.faults target.new) ≡ steady_at (T.steady target.old) (T.faults target.old) }
     ensures still { OnOk result (T.faults target.new ≡ T.faults target.old) }
     ensures cause { IfErr result (λ e. is_target_fault e ≡ true → Rose (T.faults target.old) (T.faults target.new)) }
     ensures stops { IfErr result (λ e. is_decided e ≡ false) }
     ensures never_denied { IfErr result (λ e. is_denied e ≡ false) }
     ensures no_source { IfErr result (λ e. e ≡ Outcome.SourceFault → ⊥) }
     ensures phase { IfErr result (EndsIn (NotBegun Phase.Copy)) }
+    ensures steady { IfOk result (λ desk. T.steady target.old ≡ true → T.Desk.steady desk ≡ true) }
     ensures tells { IfOk result (λ desk. T.Desk.tells desk ≡ is_some (T.tree target.old)) }
     ensures made { IfOk result (λ desk. T.Desk.made desk ≡ 0) }
     ensures faults { IfOk result (λ desk. T.Desk.faults desk ≡ 0) }
@@ -106,15 +110,20 @@ fn settle<S: Store, T: Target>(
     ensures rest { S.rest source.new ≡ S.rest source.old }
     ensures target_tree { T.tree target.new ≡ T.tree target.old }
     ensures landed { (T.rest target.new).landed ≡ (T.rest target.old).landed }
+    ensures desks { (T.rest target.new).desks_out ≡ (T.rest target.old).desks_out }
     ensures few { IfOk result (λ files. length files.items ≤ 1048576) }
     ensures counted { IfOk result (λ files. length files.items ≤ (T.rest target.new).scratch) }
+    ensures never { IfErr result (λ e. is_target_fault e ≡ true → IsSteady (T.steady target.old) (T.faults target.old) → ⊥) }
+    ensures sized { IfOk result (λ files. map (sized_in T.Desk.Temp.size) files.items ≡ map sized_of (filter is_file_item items.now)) }
     ensures copied { IfOk result (λ files. IfSome (S.tree source.old) (λ s. map (content_in T.Desk.Temp.content) files.items ≡ contents_of (is_some (T.tree target.old)) s root.now items.now)) }
     ensures never_denied { IfErr result (λ e. is_denied e ≡ true → IfSome (S.tree source.old) (λ s. AllReadable s root.now items.now → ⊥)) }
     ensures phase { IfErr result (EndsIn (NotBegun Phase.Copy)) }
     ensures stops { IfErr result (λ e. is_decided e ≡ false) }
     ensures later { S.faults source.old ≤ S.faults source.new }
+    ensures calm { steady_at (S.steady source.new) (S.faults source.new) ≡ steady_at (S.steady source.old) (S.faults source.old) }
     ensures cause { IfErr result (λ e. e ≡ Outcome.SourceFault → Rose (S.faults source.old) (S.faults source.new)) }
     ensures target_later { T.faults target.old ≤ T.faults target.new }
+    ensures target_calm { steady_at (T.steady target.new) (T.faults target.new) ≡ steady_at (T.steady target.old) (T.faults target.old) }
     ensures still { OnOk result (S.faults source.new ≡ S.faults source.old) }
     ensures target_still { OnOk result (T.faults target.new ≡ T.faults target.old) }
     ensures desk_still { OnOk result ((T.rest target.new).desk_faults ≤ (T.rest target.old).desk_faults) }
@@ -147,10 +156,12 @@ fn finish<T: Target>(
     ensures finished { OnOk result (Finishes place.now items.now (map (content_in T.Desk.Temp.content) files.items) (T.tree target.old) (T.tree target.new) (T.rest target.old) (T.rest target.new)) }
     ensures never_denied { IfErr result (λ e. is_denied e ≡ true → IfSome (T.tree target.old) (λ t. CanMakeAll t place.now items.now → CanLandAll (all_made (dir_places place.now items.now) t) place.now (map (content_in T.Desk.Temp.content) files.items) → ⊥)) }
     ensures stops { IfErr result (λ e. is_decided e ≡ false) }
-    ensures desks { OnOk result ((T.rest target.new).desk_faults ≡ (T.rest target.old).desk_faults) }
+    ensures sized { OnOk result ((T.rest target.new).landed ≡ (T.rest target.old).landed ++ map (sized_effect place.now) (map (sized_in T.Desk.Temp.size) files.items)) }
+    ensures desks { KeepsDesks (T.rest target.old) (T.rest target.new) }
     ensures ends { IfErr result (EndsIn (CommitStops place.now items.now (map (content_in T.Desk.Temp.content) files.items) (T.tree target.old) (T.tree target.new) (T.rest target.old) (T.rest target.new))) }
     ensures no_source { IfErr result (λ e. e ≡ Outcome.SourceFault → ⊥) }
     ensures later { T.faults target.old ≤ T.faults target.new }
+    ensures calm { steady_at (T.steady target.new) (T.faults target.new) ≡ steady_at (T.steady target.old) (T.faults target.old) }
     ensures still { OnOk result (T.faults target.new ≡ T.faults target.old) }
     ensures cause { IfErr result (λ e. is_target_fault e ≡ true → Rose (T.faults target.old) (T.faults target.new)) }
 {
@@ -222,7 +233,8 @@ fn give_up<T: Target>(target: &mut T, outcome: Outcome) -> Outcome
     ensures landed { (T.rest target.new).landed ≡ (T.rest target.old).landed }
     ensures cleared { IsCleared (T.rest target.new).scratch (T.faults target.old) (T.faults target.new) }
     ensures later { T.faults target.old ≤ T.faults target.new }
-    ensures desks { (T.rest target.new).desk_faults ≡ (T.rest target.old).desk_faults }
+    ensures calm { steady_at (T.steady target.new) (T.faults target.new) ≡ steady_at (T.steady target.old) (T.faults target.old) }
+    ensures desks { KeepsDesks (T.rest target.old) (T.rest target.new) }
 {
     let _ = target.sweep();
     outcome
@@ -241,23 +253,30 @@ pub fn run<S: Store, T: Target>(
 ) -> Result<Counts, Outcome>
     ensures tree { S.tree source.new ≡ S.tree source.old }
     ensures rest { S.rest source.new ≡ S.rest source.old }
+    ensures desks { (T.rest target.new).desks_out ≡ (T.rest target.old).desks_out }
     ensures stops { IfErr result (λ e. is_committed e ≡ false) }
+    ensures no_words { IfErr result (λ e. is_bad_option e ≡ false) }
     ensures never_denied { IfErr result (λ e. is_denied e ≡ true → IfSome (S.tree source.old) (λ s. IsTree s → IfSome (T.tree target.old) (λ t. IsTree t → ⊥))) }
     ensures refused { IfErr result (λ e. is_decided e ≡ true → IfSome (S.tree source.old) (λ s. IsTree s → IfSome (T.tree target.old) (λ t. IsRefused root.now place.now s t e))) }
     ensures untouched { IfErr result (λ e. is_decided e ≡ true → T.tree target.new ≡ T.tree target.old) }
     ensures unchanged { IfErr result (λ e. is_decided e ≡ true → T.rest target.new ≡ T.rest target.old) }
     ensures later { S.faults source.old ≤ S.faults source.new }
+    ensures calm { steady_at (S.steady source.new) (S.faults source.new) ≡ steady_at (S.steady source.old) (S.faults source.old) }
     ensures cause { IfErr result (λ e. e ≡ Outcome.SourceFault → Rose (S.faults source.old) (S.faults source.new)) }
     ensures target_later { T.faults target.old ≤ T.faults target.new }
+    ensures target_calm { steady_at (T.steady target.new) (T.faults target.new) ≡ steady_at (T.steady target.old) (T.faults target.old) }
     ensures still { OnOk result (S.faults source.new ≡ S.faults source.old) }
     ensures target_still { OnOk result (T.faults target.new ≡ T.faults target.old) }
     ensures desk_still { OnOk result ((T.rest target.new).desk_faults ≤ (T.rest target.old).desk_faults) }
     ensures target_cause { IfErr result (λ e. is_own_fault e ≡ true → Rose (T.faults target.old) (T.faults target.new)) }
     ensures copy_cause { IfErr result (λ e. is_copy_fault e ≡ true → Rose (T.faults target.old) (T.faults target.new) ⊎ Rose (T.rest target.old).desk_faults (T.rest target.new).desk_faults) }
+    ensures copy_never { IfErr result (λ e. is_copy_fault e ≡ true → IsSteady (T.steady target.old) (T.faults target.old) → ⊥) }
+    ensures gained { IfOk result (λ counts. Gains counts (T.rest target.old).landed (T.rest target.new).landed) }
     ensures early { IfErr result (λ e. e ≡ Outcome.SourceFault → T.tree target.new ≡ T.tree target.old) }
     ensures early_landed { IfErr result (λ e. e ≡ Outcome.SourceFault → (T.rest target.new).landed ≡ (T.rest target.old).landed) }
     ensures ends { IfErr result (λ e. IfSome (S.tree source.old) (λ s. IsTree s → IfSome (T.tree target.old) (λ t. IsTree t → EndsIn (During (listed s root.now) t place.now (T.tree target.new) (T.rest target.old).landed (T.rest target.new).landed) e))) }
     ensures cleared { IfErr result (λ e. is_late_fault e ≡ true → IsCleared (T.rest target.new).scratch (T.faults target.old) (T.faults target.new)) }
+    ensures emptied { IfErr result (λ e. is_commit_fault e ≡ true → IsCleared (T.rest target.new).scratch (raised (T.faults target.old)) (T.faults target.new)) }
     ensures left { OnErr result ((T.rest target.new ≡ T.rest target.old) ⊎ IsCleared (T.rest target.new).scratch (T.faults target.old) (T.faults target.new)) }
     ensures swept { OnOk result ((T.rest target.new).scratch ≡ 0) }
     ensures result { OnOk result (IfSome (S.tree source.old) (λ s. IsTree s → IfSome (T.tree target.old) (λ t. IsTree t → IsResult (listed s root.now) t place.now (T.tree target.new)))) }

@@ -5,6 +5,7 @@ mod commit;
 mod copying;
 mod drills;
 mod engine;
+pub mod laws;
 mod listing;
 mod outcome;
 mod output;

@@ -10,12 +10,13 @@ ghost use Rattle.dc_path.specs.Order.{is_ascending, all_below};
 ghost use Rattle.dc_path.specs.Unless.{GivesUnless};
 ghost use Rattle.dc_attrs.specs.Trees.{IsTree, IsDirAt, IsThere, seen};
 ghost use Rattle.dc_attrs.specs.declared.shown.Seen.TheVariants as seen_as;
-ghost use Rattle.dc_fs.specs.Causes.{HasCause};
+ghost use Rattle.dc_fs.specs.Causes.{HasCause, steady_at};
 ghost use Rattle.dc_fs.specs.Looks.{is_shown, AreNames};
-ghost use Rattle.dc_cli.specs.Items.{rel_of, fits, fits_under, AreItems};
+ghost use Rattle.dc_cli.specs.Items.{rel_of, fits_under, AreItems};
 ghost use Rattle.dc_cli.specs.Listed.{listed};
 ghost use Rattle.dc_cli.specs.Walks.{IsChanged, IfTooLong, IsTooLong, IsTooMany};
 ghost use Rattle.dc_cli.specs.Walking.{IsShorter, stepped, child_of, entered, GainsNames, GainsAll, GainsItem, Keeps, DirStops, ChildStops, IsLimit, DirPasses, ChildPasses, IsFull};
+ghost use Rattle.dc_path.specs.Paths.{fits};
 
 use dc_attrs::Seen;
 use dc_fs::{ReadError, Store};
@@ -130,6 +131,7 @@ fn names_of<S: Store>(alloc: Global, source: &mut S, path: &Path) -> Result<List
     ensures tree { S.tree source.new ≡ S.tree source.old }
     ensures rest { S.rest source.new ≡ S.rest source.old }
     ensures cause { HasCause (S.faults source.old) (S.faults source.new) result ListError.Fault }
+    ensures calm { steady_at (S.steady source.new) (S.faults source.new) ≡ steady_at (S.steady source.old) (S.faults source.old) }
     ensures ascending { IfOk result (IsStrictlySortedBy (slice_cmp nat_cmp)) }
     ensures shown { IfOk result (λ names. IsTrue (list_all is_shown names)) }
     ensures names { IfOk result (λ names. IfSome (S.tree source.old) (λ s. AreNames s path.now names)) }
@@ -193,6 +195,7 @@ fn visit<S: Store>(
     ensures tree { S.tree source.new ≡ S.tree source.old }
     ensures rest { S.rest source.new ≡ S.rest source.old }
     ensures cause { HasCause (S.faults source.old) (S.faults source.new) result ListError.Fault }
+    ensures calm { steady_at (S.steady source.new) (S.faults source.new) ≡ steady_at (S.steady source.old) (S.faults source.old) }
     ensures kept { Keeps place.now items.old items.new }
     ensures below { OnOk result ((x : List ℕ) → all_below (map rel_of items.new) (place.now.rel ++ x ∷ []) ≡ true) }
     ensures added { IfOk result (λ dir. GainsItem (S.tree source.old) place.now dir items.old items.new) }
@@ -232,6 +235,7 @@ fn walk_child<S: Store>(
     ensures tree { S.tree source.new ≡ S.tree source.old }
     ensures rest { S.rest source.new ≡ S.rest source.old }
     ensures cause { HasCause (S.faults source.old) (S.faults source.new) result ListError.Fault }
+    ensures calm { steady_at (S.steady source.new) (S.faults source.new) ≡ steady_at (S.steady source.old) (S.faults source.old) }
     ensures kept { Keeps (child_of dir.now name.now) items.old items.new }
     ensures added { OnOk result (GainsNames (name.now ∷ []) (S.tree source.old) dir.now items.old items.new) }
     ensures stops { IfErr result (λ e. ChildStops e (S.tree source.old) (child_of dir.now name.now)) }
@@ -260,6 +264,7 @@ fn walk_dir<S: Store>(
     ensures tree { S.tree source.new ≡ S.tree source.old }
     ensures rest { S.rest source.new ≡ S.rest source.old }
     ensures cause { HasCause (S.faults source.old) (S.faults source.new) result ListError.Fault }
+    ensures calm { steady_at (S.steady source.new) (S.faults source.new) ≡ steady_at (S.steady source.old) (S.faults source.old) }
     ensures kept { Keeps dir.now items.old items.new }
     ensures added { OnOk result (GainsAll (S.tree source.old) dir.now items.old items.new) }
     ensures dir { OnOk result (IfSome (S.tree source.old) (λ s. IsDirAt s dir.now.from)) }
@@ -288,6 +293,7 @@ pub fn list_tree<S: Store>(
     ensures tree { S.tree source.new ≡ S.tree source.old }
     ensures rest { S.rest source.new ≡ S.rest source.old }
     ensures cause { HasCause (S.faults source.old) (S.faults source.new) result ListError.Fault }
+    ensures calm { steady_at (S.steady source.new) (S.faults source.new) ≡ steady_at (S.steady source.old) (S.faults source.old) }
     ensures ascending { IfOk result (λ items. IsTrue (is_ascending (map rel_of items))) }
     ensures few { IfOk result (λ items. length items ≤ 1048576) }
     ensures sources { IfOk result (λ items. IsTrue (list_all (fits_under root.now) items)) }

@@ -29,7 +29,8 @@ enum Piece<'a> {
 // Writes a number in decimal.
 fn write_number<O: Sink>(out: &mut O, number: u128) -> Result<(), SinkFault>
     ensures taken { OnOk result (O.bytes out.new ≡ option_map (λ old. old ++ decimal_of number) (O.bytes out.old)) }
-    ensures stopped { OnErr result (WriteStops (decimal_of number) (O.bytes out.old) (O.bytes out.new)) }
+    ensures stopped { OnErr result (WriteStops (O.limit out.old) (decimal_of number) (O.bytes out.old) (O.bytes out.new)) }
+    ensures limit { O.limit out.new ≡ O.limit out.old }
     ensures cause { HasCause (O.faults out.old) (O.faults out.new) result (record {}) }
 {
     if number < 10 {
@@ -42,7 +43,8 @@ fn write_number<O: Sink>(out: &mut O, number: u128) -> Result<(), SinkFault>
 // Writes a `/` and a name.
 fn write_name<O: Sink>(out: &mut O, name: &Name) -> Result<(), SinkFault>
     ensures taken { OnOk result (O.bytes out.new ≡ option_map (λ old. old ++ (codes "/" ++ name.now)) (O.bytes out.old)) }
-    ensures stopped { OnErr result (WriteStops (codes "/" ++ name.now) (O.bytes out.old) (O.bytes out.new)) }
+    ensures stopped { OnErr result (WriteStops (O.limit out.old) (codes "/" ++ name.now) (O.bytes out.old) (O.bytes out.new)) }
+    ensures limit { O.limit out.new ≡ O.limit out.old }
     ensures cause { HasCause (O.faults out.old) (O.faults out.new) result (record {}) }
 {
     out.write(b"/")?;
@@ -52,7 +54,8 @@ fn write_name<O: Sink>(out: &mut O, name: &Name) -> Result<(), SinkFault>
 // Writes the text of a path.
 fn write_path<O: Sink>(out: &mut O, path: &Path) -> Result<(), SinkFault>
     ensures taken { OnOk result (O.bytes out.new ≡ option_map (λ old. old ++ text_of path.now) (O.bytes out.old)) }
-    ensures stopped { OnErr result (WriteStops (text_of path.now) (O.bytes out.old) (O.bytes out.new)) }
+    ensures stopped { OnErr result (WriteStops (O.limit out.old) (text_of path.now) (O.bytes out.old) (O.bytes out.new)) }
+    ensures limit { O.limit out.new ≡ O.limit out.old }
     ensures cause { HasCause (O.faults out.old) (O.faults out.new) result (record {}) }
 {
     if path.len() == 0 {
@@ -69,7 +72,8 @@ fn write_path<O: Sink>(out: &mut O, path: &Path) -> Result<(), SinkFault>
 // Writes a piece.
 fn write_piece<O: Sink>(out: &mut O, piece: &Piece<'_>) -> Result<(), SinkFault>
     ensures taken { OnOk result (O.bytes out.new ≡ option_map (λ old. old ++ piece_text piece.now) (O.bytes out.old)) }
-    ensures stopped { OnErr result (WriteStops (piece_text piece.now) (O.bytes out.old) (O.bytes out.new)) }
+    ensures stopped { OnErr result (WriteStops (O.limit out.old) (piece_text piece.now) (O.bytes out.old) (O.bytes out.new)) }
+    ensures limit { O.limit out.new ≡ O.limit out.old }
     ensures cause { HasCause (O.faults out.old) (O.faults out.new) result (record {}) }
 {
     match piece {
@@ -82,7 +86,8 @@ fn write_piece<O: Sink>(out: &mut O, piece: &Piece<'_>) -> Result<(), SinkFault>
 // Writes pieces, one after the other.
 fn write_pieces<O: Sink>(out: &mut O, pieces: &[Piece<'_>]) -> Result<(), SinkFault>
     ensures taken { OnOk result (O.bytes out.new ≡ option_map (λ old. old ++ pieces_text pieces.now) (O.bytes out.old)) }
-    ensures stopped { OnErr result (WriteStops (pieces_text pieces.now) (O.bytes out.old) (O.bytes out.new)) }
+    ensures stopped { OnErr result (WriteStops (O.limit out.old) (pieces_text pieces.now) (O.bytes out.old) (O.bytes out.new)) }
+    ensures limit { O.limit out.new ≡ O.limit out.old }
     ensures cause { HasCause (O.faults out.old) (O.faults out.new) result (record {}) }
 {
     for piece in pieces {
@@ -127,7 +132,8 @@ fn phase_word(phase: Phase) -> &'static str
 // Writes a text as a line.
 fn write_line<O: Sink>(out: &mut O, text: &str) -> Result<(), SinkFault>
     ensures taken { OnOk result (O.bytes out.new ≡ option_map (λ old. old ++ line text.now) (O.bytes out.old)) }
-    ensures stopped { OnErr result (WriteStops (line text.now) (O.bytes out.old) (O.bytes out.new)) }
+    ensures stopped { OnErr result (WriteStops (O.limit out.old) (line text.now) (O.bytes out.old) (O.bytes out.new)) }
+    ensures limit { O.limit out.new ≡ O.limit out.old }
     ensures cause { HasCause (O.faults out.old) (O.faults out.new) result (record {}) }
 {
     write_pieces(out, &[Piece::Text(text), Piece::Text("\n")])
@@ -136,7 +142,8 @@ fn write_line<O: Sink>(out: &mut O, text: &str) -> Result<(), SinkFault>
 // Writes why words are no options, as a line.
 fn write_option_error<O: Sink>(out: &mut O, error: &OptionError) -> Result<(), SinkFault>
     ensures taken { OnOk result (O.bytes out.new ≡ option_map (λ old. old ++ line (option_text error.now)) (O.bytes out.old)) }
-    ensures stopped { OnErr result (WriteStops (line (option_text error.now)) (O.bytes out.old) (O.bytes out.new)) }
+    ensures stopped { OnErr result (WriteStops (O.limit out.old) (line (option_text error.now)) (O.bytes out.old) (O.bytes out.new)) }
+    ensures limit { O.limit out.new ≡ O.limit out.old }
     ensures cause { HasCause (O.faults out.old) (O.faults out.new) result (record {}) }
 {
     match error {
@@ -164,7 +171,8 @@ fn write_option_error<O: Sink>(out: &mut O, error: &OptionError) -> Result<(), S
 // Writes the six counters, a line each.
 fn write_counters<O: Sink>(out: &mut O, counts: &Counts) -> Result<(), SinkFault>
     ensures taken { OnOk result (O.bytes out.new ≡ option_map (λ old. old ++ counter_lines counts.now) (O.bytes out.old)) }
-    ensures stopped { OnErr result (WriteStops (counter_lines counts.now) (O.bytes out.old) (O.bytes out.new)) }
+    ensures stopped { OnErr result (WriteStops (O.limit out.old) (counter_lines counts.now) (O.bytes out.old) (O.bytes out.new)) }
+    ensures limit { O.limit out.new ≡ O.limit out.old }
     ensures cause { HasCause (O.faults out.old) (O.faults out.new) result (record {}) }
 {
     write_pieces(
@@ -194,7 +202,8 @@ fn write_too_long<'a, O: Sink>(
     name: &'a Name,
 ) -> Result<(), SinkFault>
     ensures taken { OnOk result (O.bytes out.new ≡ option_map (λ old. old ++ line (outcome_text (TooLong parent.now name.now))) (O.bytes out.old)) }
-    ensures stopped { OnErr result (WriteStops (line (outcome_text (TooLong parent.now name.now))) (O.bytes out.old) (O.bytes out.new)) }
+    ensures stopped { OnErr result (WriteStops (O.limit out.old) (line (outcome_text (TooLong parent.now name.now))) (O.bytes out.old) (O.bytes out.new)) }
+    ensures limit { O.limit out.new ≡ O.limit out.old }
     ensures cause { HasCause (O.faults out.old) (O.faults out.new) result (record {}) }
 {
     write_pieces(
@@ -212,7 +221,8 @@ fn write_too_long<'a, O: Sink>(
 // Writes in which part of a run the target failed, as a line.
 fn write_target_fault<O: Sink>(out: &mut O, phase: Phase, done: u64) -> Result<(), SinkFault>
     ensures taken { OnOk result (O.bytes out.new ≡ option_map (λ old. old ++ line (outcome_text (TargetFault phase done))) (O.bytes out.old)) }
-    ensures stopped { OnErr result (WriteStops (line (outcome_text (TargetFault phase done))) (O.bytes out.old) (O.bytes out.new)) }
+    ensures stopped { OnErr result (WriteStops (O.limit out.old) (line (outcome_text (TargetFault phase done))) (O.bytes out.old) (O.bytes out.new)) }
+    ensures limit { O.limit out.new ≡ O.limit out.old }
     ensures cause { HasCause (O.faults out.old) (O.faults out.new) result (record {}) }
 {
     write_pieces(
@@ -230,7 +240,8 @@ fn write_target_fault<O: Sink>(out: &mut O, phase: Phase, done: u64) -> Result<(
 // Writes a text and a path, as a line.
 fn write_path_line<'a, O: Sink>(out: &mut O, text: &'a str, path: &'a Path) -> Result<(), SinkFault>
     ensures taken { OnOk result (O.bytes out.new ≡ option_map (λ old. old ++ line (text.now ++ text_of path.now)) (O.bytes out.old)) }
-    ensures stopped { OnErr result (WriteStops (line (text.now ++ text_of path.now)) (O.bytes out.old) (O.bytes out.new)) }
+    ensures stopped { OnErr result (WriteStops (O.limit out.old) (line (text.now ++ text_of path.now)) (O.bytes out.old) (O.bytes out.new)) }
+    ensures limit { O.limit out.new ≡ O.limit out.old }
     ensures cause { HasCause (O.faults out.old) (O.faults out.new) result (record {}) }
 {
     write_pieces(
@@ -242,7 +253,8 @@ fn write_path_line<'a, O: Sink>(out: &mut O, text: &'a str, path: &'a Path) -> R
 // Writes all lines of a run.
 fn write_lines<O: Sink>(out: &mut O, outcome: &Outcome, counts: &Counts) -> Result<(), SinkFault>
     ensures taken { OnOk result (O.bytes out.new ≡ option_map (λ old. old ++ lines outcome.now counts.now) (O.bytes out.old)) }
-    ensures stopped { OnErr result (WriteStops (lines outcome.now counts.now) (O.bytes out.old) (O.bytes out.new)) }
+    ensures stopped { OnErr result (WriteStops (O.limit out.old) (lines outcome.now counts.now) (O.bytes out.old) (O.bytes out.new)) }
+    ensures limit { O.limit out.new ≡ O.limit out.old }
     ensures cause { HasCause (O.faults out.old) (O.faults out.new) result (record {}) }
 {
     match outcome {
@@ -268,7 +280,8 @@ fn write_lines<O: Sink>(out: &mut O, outcome: &Outcome, counts: &Counts) -> Resu
 /// After a fault of the sink nothing more is written: the sink has taken a front of the lines.
 pub fn print<O: Sink>(answer: &Answer, out: &mut O) -> bool
     ensures printed { result ≡ true → O.bytes out.new ≡ option_map (λ old. old ++ lines answer.now.outcome answer.now.counts) (O.bytes out.old) }
-    ensures stopped { result ≡ false → WriteStops (lines answer.now.outcome answer.now.counts) (O.bytes out.old) (O.bytes out.new) }
+    ensures stopped { result ≡ false → WriteStops (O.limit out.old) (lines answer.now.outcome answer.now.counts) (O.bytes out.old) (O.bytes out.new) }
+    ensures limit { O.limit out.new ≡ O.limit out.old }
     ensures later { O.faults out.old ≤ O.faults out.new }
     ensures cause { result ≡ false → Rose (O.faults out.old) (O.faults out.new) }
     ensures still { result ≡ true → O.faults out.new ≡ O.faults out.old }

@@ -46,6 +46,8 @@ impl<'a, R: Print> Sink for StdSink<'a, R> {
 
     ghost faults = { λ s. s.faults };
 
+    ghost limit = { λ _. None };
+
     fn write(&mut self, piece: &[u8]) -> Result<(), SinkFault> {
         match write_whole(self.rt, piece) {
             Ok(()) => Ok(()),

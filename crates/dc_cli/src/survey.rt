@@ -1,19 +1,16 @@
 //! What a run looks at before it changes anything: the source, the target's path, and the listing.
 #![tactic(auto)]
 
-ghost use Rattle.std.specs.Prelude.{◌≡◌, ◌≤◌, true, false, map, length, Ok, Err, IfOk, IfErr, IfSome, OnOk, IsTrue};
-ghost use Rattle.std.specs.List.{list_all};
-ghost use Rattle.dc_path.specs.Order.{is_ascending};
+ghost use Rattle.std.specs.Prelude.{◌≡◌, ◌≤◌, true, false, Err, IfOk, IfErr, IfSome, OnOk};
 ghost use Rattle.dc_path.specs.Paths.{IsPath};
-ghost use Rattle.dc_attrs.specs.Trees.{IsTree, is_hidden, seen};
 ghost use Rattle.dc_path.specs.Unless.{GivesUnless};
-ghost use Rattle.dc_fs.specs.Causes.{Rose, HasCause};
-ghost use Rattle.dc_cli.specs.Items.{rel_of, fits_under, AreItems};
-ghost use Rattle.dc_cli.specs.Listed.{listed};
-ghost use Rattle.dc_cli.specs.Verdict.{is_decided, is_denied, IsRefused};
+ghost use Rattle.dc_attrs.specs.Trees.{is_hidden, seen};
+ghost use Rattle.dc_fs.specs.Causes.{Rose, HasCause, steady_at};
+ghost use Rattle.dc_fs.specs.Views.{view, OnlyLooks, BothTell};
+ghost use Rattle.dc_cli.specs.Checks.{is_bad_option, judged, checked, Checks, is_absent, is_target_fault, outcome_of_listing};
 ghost use Rattle.dc_cli.specs.During.{EndsIn};
 ghost use Rattle.dc_cli.specs.Stops.{NotBegun};
-ghost use Rattle.dc_cli.specs.Checks.{judged, checked, Checks, is_absent, is_target_fault, is_committed, outcome_of_listing};
+ghost use Rattle.dc_cli.specs.Surveys.{is_source_fault, EndsCheck, IsDue, Lists};
 
 use crate::listing::{Item, ListError, list_tree};
 use crate::{BadTarget, Outcome, Phase, TooManyOf};
@@ -46,6 +43,7 @@ fn look_at_source<S: Store>(source: &mut S, root: &Path) -> Result<Seen, Outcome
     ensures tree { S.tree source.new ≡ S.tree source.old }
     ensures rest { S.rest source.new ≡ S.rest source.old }
     ensures cause { HasCause (S.faults source.old) (S.faults source.new) result Outcome.SourceFault }
+    ensures calm { steady_at (S.steady source.new) (S.faults source.new) ≡ steady_at (S.steady source.old) (S.faults source.old) }
     ensures refused { IfErr result (λ e. e ≡ Outcome.SourceFault) }
     ensures seen { IfOk result (λ shown. IfSome (S.tree source.old) (λ s. shown ≡ seen s root.now)) }
 {
@@ -60,6 +58,7 @@ fn look_at_target<T: Store>(target: &mut T, place: &Path) -> Result<Seen, Outcom
     ensures tree { T.tree target.new ≡ T.tree target.old }
     ensures rest { T.rest target.new ≡ T.rest target.old }
     ensures later { T.faults target.old ≤ T.faults target.new }
+    ensures calm { steady_at (T.steady target.new) (T.faults target.new) ≡ steady_at (T.steady target.old) (T.faults target.old) }
     ensures still { OnOk result (T.faults target.new ≡ T.faults target.old) }
     ensures cause { IfErr result (λ e. (is_target_fault e ≡ true) × Rose (T.faults target.old) (T.faults target.new)) }
     ensures phase { IfErr result (EndsIn (NotBegun Phase.Check)) }
@@ -84,7 +83,8 @@ fn no_source(alloc: Global, root: &Path) -> Result<(), Outcome>
 
 // Whether what stands at the two paths allows a run.
 fn judge(from: Seen, to: Seen) -> Result<(), Outcome>
-    ensures { result ≡ judged from to }
+    ensures judged { result ≡ judged from to }
+    ensures no_words { IfErr result (λ e. is_bad_option e ≡ false) }
 {
     match (from, to) {
         (_, Seen::NotDir) => Err(Outcome::BadTarget {
@@ -106,19 +106,11 @@ fn check_paths<S: Store, T: Store>(
     root: &Path,
     place: &Path,
 ) -> Result<(), Outcome>
-    ensures tree { S.tree source.new ≡ S.tree source.old }
-    ensures rest { S.rest source.new ≡ S.rest source.old }
-    ensures target_tree { T.tree target.new ≡ T.tree target.old }
-    ensures target_rest { T.rest target.new ≡ T.rest target.old }
-    ensures cause { HasCause (S.faults source.old) (S.faults source.new) result Outcome.SourceFault }
-    ensures target_later { T.faults target.old ≤ T.faults target.new }
-    ensures target_still { OnOk result (T.faults target.new ≡ T.faults target.old) }
-    ensures target_cause { IfErr result (λ e. is_target_fault e ≡ true → Rose (T.faults target.old) (T.faults target.new)) }
-    ensures stops { IfErr result (λ e. is_committed e ≡ false) }
-    ensures never_denied { IfErr result (λ e. is_denied e ≡ false) }
-    ensures phase { IfErr result (EndsIn (NotBegun Phase.Check)) }
+    ensures source { OnlyLooks (view S.Store source.old) (view S.Store source.new) result is_source_fault }
+    ensures target { OnlyLooks (view T.Store target.old) (view T.Store target.new) result is_target_fault }
+    ensures ends { IfErr result EndsCheck }
     ensures place { OnOk result (IsPath place.now) }
-    ensures answers { IfSome (S.tree source.old) (λ s. IfSome (T.tree target.old) (λ t. Checks (checked root.now place.now (seen s root.now) (seen t place.now)) result)) }
+    ensures answers { BothTell (S.tree source.old) (T.tree target.old) (λ s t. Checks (checked root.now place.now (seen s root.now) (seen t place.now)) result) }
 {
     let from = look_at_source(source, root)?;
     if is_absent(from) {
@@ -163,25 +155,10 @@ pub fn survey<S: Store, T: Store>(
     root: &Path,
     place: &Path,
 ) -> Result<List<Item>, Outcome>
-    ensures tree { S.tree source.new ≡ S.tree source.old }
-    ensures rest { S.rest source.new ≡ S.rest source.old }
-    ensures target_tree { T.tree target.new ≡ T.tree target.old }
-    ensures target_rest { T.rest target.new ≡ T.rest target.old }
-    ensures cause { HasCause (S.faults source.old) (S.faults source.new) result Outcome.SourceFault }
-    ensures target_later { T.faults target.old ≤ T.faults target.new }
-    ensures target_still { OnOk result (T.faults target.new ≡ T.faults target.old) }
-    ensures target_cause { IfErr result (λ e. is_target_fault e ≡ true → Rose (T.faults target.old) (T.faults target.new)) }
-    ensures stops { IfErr result (λ e. is_committed e ≡ false) }
-    ensures refused { IfErr result (λ e. is_decided e ≡ true → IfSome (S.tree source.old) (λ s. IsTree s → IfSome (T.tree target.old) (λ t. IsRefused root.now place.now s t e))) }
-    ensures never_denied { IfErr result (λ e. is_denied e ≡ true → IfSome (S.tree source.old) (λ s. IsTree s → IfSome (T.tree target.old) (λ t. ⊥))) }
-    ensures phase { IfErr result (EndsIn (NotBegun Phase.Check)) }
-    ensures place { OnOk result (IsPath place.now) }
-    ensures ascending { IfOk result (λ items. IsTrue (is_ascending (map rel_of items))) }
-    ensures few { IfOk result (λ items. length items ≤ 1048576) }
-    ensures listed { IfOk result (λ items. IfSome (S.tree source.old) (λ s. IsTree s → AreItems (listed s root.now) items)) }
-    ensures sources { IfOk result (λ items. IsTrue (list_all (fits_under root.now) items)) }
-    ensures places { IfOk result (λ items. IsTrue (list_all (fits_under place.now) items)) }
-    ensures allowed { OnOk result (IfSome (S.tree source.old) (λ s. IfSome (T.tree target.old) (λ t. checked root.now place.now (seen s root.now) (seen t place.now) ≡ Ok tt))) }
+    ensures source { OnlyLooks (view S.Store source.old) (view S.Store source.new) result is_source_fault }
+    ensures target { OnlyLooks (view T.Store target.old) (view T.Store target.new) result is_target_fault }
+    ensures due { IfErr result (IsDue root.now place.now (S.tree source.old) (T.tree target.old)) }
+    ensures lists { IfOk result (Lists root.now place.now (S.tree source.old) (T.tree target.old)) }
 {
     match check_paths(alloc, source, target, root, place) {
         Ok(()) => {}

@@ -1,7 +1,7 @@
 //! The program `distcp`: what its words ask for, and the exit status that it ends with.
 #![tactic(auto)]
 
-ghost use Rattle.std.specs.Prelude.{◌≡◌, ◌≢◌, ◌≤◌, ◌<◌, ◌⊎◌, ◌++◌, ℕ, codes, IfSome};
+ghost use Rattle.std.specs.Prelude.{◌≡◌, ◌≢◌, ◌≤◌, ◌<◌, ◌⊎◌, ◌++◌, ℕ, codes, map, string_bytes, IfSome, IfOk, IfErr};
 ghost use Rattle.std.specs.Option.{option_map};
 ghost use Rattle.dc_fs.specs.Causes.{Rose};
 ghost use Rattle.dc_cli.specs.Drills.{drill_source, drill_target, drill_tree};
@@ -10,7 +10,7 @@ ghost use Rattle.dc_cli.specs.Listed.{listed};
 ghost use Rattle.dc_cli.specs.Output.{lines};
 ghost use Rattle.dc_cli.specs.declared.outcome.Counts.{Counts};
 ghost use Rattle.dc_cli.specs.declared.outcome.Outcome.{Outcome};
-ghost use Rattle.distcp.specs.Jobs.{said};
+ghost use Rattle.distcp.specs.Jobs.{said, job_of};
 
 mod words;
 
@@ -37,7 +37,7 @@ const DONE: u8 = 0;
 /// Memory ran out.
 const NO_MEMORY: u8 = 24;
 
-/// A run ended in another way than by its commit.
+/// A run ended in another way than by its commit, which no drill does.
 const NOT_REACHED: u8 = 25;
 
 /// The standard output did not take all lines.
@@ -70,6 +70,7 @@ fn run_drill<R: Threads + Sync, O: Sink>(
     ensures refused { result ≡ 255 → ((count < 2) ⊎ (200000 < count)) × (O.bytes out.new ≡ option_map (λ old. old ++ codes "distcp: bad drill\n") (O.bytes out.old)) }
     ensures bad_count { (count < 2) ⊎ (200000 < count) → result ≢ 28 → result ≡ 255 }
     ensures memory { result ≡ 24 → O.bytes out.new ≡ option_map (λ old. old ++ lines Outcome.Memory none_counted) (O.bytes out.old) }
+    ensures known { (result ≡ 0) ⊎ (result ≡ 24) ⊎ (result ≡ 28) ⊎ (result ≡ 255) }
     ensures unprinted { result ≡ 28 → Rose (O.faults out.old) (O.faults out.new) }
     ensures later { O.faults out.old ≤ O.faults out.new }
 {
@@ -88,6 +89,8 @@ fn run_job<R: Threads + Sync, O: Sink>(rt: &R, alloc: Global, job: Job, out: &mu
     ensures drilled { (seed count : ℕ) → job ≡ Job.Drill seed count → result ≡ 0 → (counts : Counts) × AreCounts (listed (drill_tree seed count) drill_source) drill_target counts × (O.bytes out.new ≡ option_map (λ old. old ++ lines Outcome.Committed counts) (O.bytes out.old)) }
     ensures refused { (seed count : ℕ) → job ≡ Job.Drill seed count → result ≡ 255 → ((count < 2) ⊎ (200000 < count)) × (O.bytes out.new ≡ option_map (λ old. old ++ codes "distcp: bad drill\n") (O.bytes out.old)) }
     ensures bad_count { (seed count : ℕ) → job ≡ Job.Drill seed count → (count < 2) ⊎ (200000 < count) → result ≢ 28 → result ≡ 255 }
+    ensures memory { (seed count : ℕ) → job ≡ Job.Drill seed count → result ≡ 24 → O.bytes out.new ≡ option_map (λ old. old ++ lines Outcome.Memory none_counted) (O.bytes out.old) }
+    ensures known { (seed count : ℕ) → job ≡ Job.Drill seed count → (result ≡ 0) ⊎ (result ≡ 24) ⊎ (result ≡ 28) ⊎ (result ≡ 255) }
     ensures unprinted { result ≡ 28 → Rose (O.faults out.old) (O.faults out.new) }
     ensures later { O.faults out.old ≤ O.faults out.new }
 {
@@ -111,6 +114,7 @@ fn read_words<R: Env + AllocGlobal>(rt: &R) -> io::Result<Vec<String>> {
 fn no_words<O: Sink>(out: &mut O, kind: ErrorKind) -> u8
     ensures memory { kind ≡ ErrorKind.OutOfMemory → result ≢ 28 → (result ≡ 24) × (O.bytes out.new ≡ option_map (λ old. old ++ codes "distcp: no memory\n") (O.bytes out.old)) }
     ensures word { kind ≢ ErrorKind.OutOfMemory → result ≢ 28 → (result ≡ 255) × (O.bytes out.new ≡ option_map (λ old. old ++ codes "distcp: bad word\n") (O.bytes out.old)) }
+    ensures known { (result ≡ 24) ⊎ (result ≡ 28) ⊎ (result ≡ 255) }
     ensures unprinted { result ≡ 28 → Rose (O.faults out.old) (O.faults out.new) }
 {
     match kind {
@@ -119,11 +123,32 @@ fn no_words<O: Sink>(out: &mut O, kind: ErrorKind) -> u8
     }
 }
 
+// Does what the words ask for, or says why there are none, and answers the exit status.
+//
+// What is no drill prints a line or the usage and has its own status. A drill ends with 0 once its counters are printed,
+// with 24 where memory ran out, and with 255 where its count is refused. Else the sink has not taken all lines: 28.
+fn run_words<R: Threads + Sync, O: Sink>(
+    rt: &R,
+    alloc: Global,
+    words: io::Result<Vec<String>>,
+    out: &mut O,
+) -> u8
+    ensures said { IfOk words (λ words. result ≢ 28 → IfSome (said (job_of (map string_bytes words.items))) (λ line. (result ≡ line.1) × (O.bytes out.new ≡ option_map (λ old. old ++ line.0) (O.bytes out.old)))) }
+    ensures drilled { IfOk words (λ words. (seed count : ℕ) → job_of (map string_bytes words.items) ≡ Job.Drill seed count → result ≡ 0 → (counts : Counts) × AreCounts (listed (drill_tree seed count) drill_source) drill_target counts × (O.bytes out.new ≡ option_map (λ old. old ++ lines Outcome.Committed counts) (O.bytes out.old))) }
+    ensures refused { IfOk words (λ words. (seed count : ℕ) → job_of (map string_bytes words.items) ≡ Job.Drill seed count → result ≡ 255 → ((count < 2) ⊎ (200000 < count)) × (O.bytes out.new ≡ option_map (λ old. old ++ codes "distcp: bad drill\n") (O.bytes out.old))) }
+    ensures bad_count { IfOk words (λ words. (seed count : ℕ) → job_of (map string_bytes words.items) ≡ Job.Drill seed count → (count < 2) ⊎ (200000 < count) → result ≢ 28 → result ≡ 255) }
+    ensures memory { IfOk words (λ words. (seed count : ℕ) → job_of (map string_bytes words.items) ≡ Job.Drill seed count → result ≡ 24 → O.bytes out.new ≡ option_map (λ old. old ++ lines Outcome.Memory none_counted) (O.bytes out.old)) }
+    ensures known { IfOk words (λ words. (seed count : ℕ) → job_of (map string_bytes words.items) ≡ Job.Drill seed count → (result ≡ 0) ⊎ (result ≡ 24) ⊎ (result ≡ 28) ⊎ (result ≡ 255)) }
+    ensures lacking { IfErr words (λ _. (result ≡ 24) ⊎ (result ≡ 28) ⊎ (result ≡ 255)) }
+    ensures unprinted { result ≡ 28 → Rose (O.faults out.old) (O.faults out.new) }
+{
+    match words {
+        Ok(words) => run_job(rt, alloc, read_job(words.as_slice()), out),
+        Err(error) => no_words(out, error.kind()),
+    }
+}
+
 fn main(rt: HostRuntime) -> ExitCode {
     let mut out = StdSink::new(&rt);
-    let status = match read_words(&rt) {
-        Ok(words) => run_job(&rt, rt.alloc(), read_job(words.as_slice()), &mut out),
-        Err(error) => no_words(&mut out, error.kind()),
-    };
-    ExitCode::from(status)
+    ExitCode::from(run_words(&rt, rt.alloc(), read_words(&rt), &mut out))
 }

@@ -3,8 +3,9 @@ use Rattle.std.proofs.lemmas.List.{map-append, length-map}
 use Rattle.std.specs.Vec.Iter.{into_iter_items, into_iter_steps}
 use Rattle.dc_cli.specs.Makeable.{CanLandAll}
 use Rattle.dc_cli.specs.Phases.{Content}
-use Rattle.dc_cli.specs.Ready.{content_in}
+use Rattle.dc_cli.specs.Ready.{content_in, sized_in, sized_effect}
 use Rattle.dc_cli.specs.Steps.{LandsAll}
+use Rattle.dc_cli.proofs.SizeLemmas.{landed_step}
 use Rattle.dc_cli.proofs.CommitLemmas.{lands_step}
 use Rattle.dc_cli.proofs.MakeLemmas.{land_stop, given_so_far}
 use Rattle.dc_cli.specs.Stops.{LandedUpTo}
@@ -21,8 +22,14 @@ loop-file-preserved g c = record {
       (g.T.Store.rest c.args.target.now) (g.T.Store.rest c.loop-file.target) (g.T.Store.rest c.land_one.new.target)
       c.loop-file.invariant.landed c.in-Ok.ensures.ok);
   later = omega (arith, c.land_one.ensures.cause.later, c.loop-file.invariant.later);
+  calm = c.land_one.ensures.calm ∙ c.loop-file.invariant.calm;
   still = c.in-Ok.ensures.cause.still ∙ c.loop-file.invariant.still;
-  desks = c.land_one.ensures.desks ∙ c.loop-file.invariant.desks;
+  sized = subst (λ files. (g.T.Store.rest c.land_one.new.target).landed ≡ (g.T.Store.rest c.args.target.now).landed ++ map (sized_effect c.args.base.now) files)
+      (sym (map-append (sized_in g.T.Desk.Temp.Held.size) c.loop-file.yielded (c.in-Some.file ∷ [])))
+      (landed_step c.args.base.now (map (sized_in g.T.Desk.Temp.Held.size) c.loop-file.yielded) (sized_in g.T.Desk.Temp.Held.size c.in-Some.file)
+      (g.T.Store.rest c.args.target.now).landed (g.T.Store.rest c.loop-file.target).landed (g.T.Store.rest c.land_one.new.target).landed
+      c.loop-file.invariant.sized c.in-Ok.ensures.sized);
+  desks = record { out = c.land_one.ensures.desks.out ∙ c.loop-file.invariant.desks.out; faults = c.land_one.ensures.desks.faults ∙ c.loop-file.invariant.desks.faults };
 }
 
 pub returns-in-Err-clause-changed : goal.returns-in-Err-clause-changed

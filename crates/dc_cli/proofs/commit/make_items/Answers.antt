@@ -15,6 +15,7 @@ loop-item-preserved g c = record {
       c.item-item.is c.loop-item-test.true c.if-not-item.false c.loop-item.invariant.tree c.in-Ok.ensures.tree;
   rest = c.make_item.ensures.rest ∙ c.loop-item.invariant.rest;
   later = omega (arith, c.make_item.ensures.cause.later, c.loop-item.invariant.later);
+  calm = c.make_item.ensures.calm ∙ c.loop-item.invariant.calm;
   still = c.in-Ok.ensures.cause.still ∙ c.loop-item.invariant.still;
 }
 

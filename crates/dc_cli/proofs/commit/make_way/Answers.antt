@@ -1,12 +1,12 @@
 use Rattle.std.proofs.Common.{◌∙◌, refl, suc, take, add-one, sym, ap, arith}
 use Rattle.dc_cli.proofs.CommitLemmas.{way_step, way_end}
-use Rattle.dc_cli.specs.Items.{fits}
 use Rattle.dc_cli.proofs.MakeLemmas.{never_fits, way_stop}
 use Rattle.dc_attrs.specs.Trees.{updated, made}
 use Rattle.dc_cli.specs.Phases.{ways}
 use Rattle.dc_cli.specs.Stops.{MadeUpTo}
 use Rattle.dc_cli.proofs.StopLemmas.{stops_at, was_or_done, way_stays, way_stops}
 use Rattle.dc_cli.proofs.commit.make_way.Goals as goal
+use Rattle.dc_path.specs.Paths.{fits}
 
 pub loop-done-preserved : goal.loop-done-preserved
 loop-done-preserved g c = record {
@@ -15,6 +15,7 @@ loop-done-preserved g c = record {
       (omega arith) c.in-Ok.ensures.way c.loop-done.invariant.tree c.in-Ok-make_place.ensures.tree;
   rest = c.make_place.ensures.rest ∙ c.loop-done.invariant.rest;
   later = omega (arith, c.make_place.ensures.cause.later, c.loop-done.invariant.later);
+  calm = c.make_place.ensures.calm ∙ c.loop-done.invariant.calm;
   still = c.in-Ok-make_place.ensures.cause.still ∙ c.loop-done.invariant.still;
 }
 

@@ -1,8 +1,7 @@
 use Rattle.std.proofs.Common.{rules, ◌≡◌, false, sym, ap, ◌∙◌, ◌++◌, ◌∷◌, []}
-use Rattle.dc_path.specs.Paths.{Names}
+use Rattle.dc_path.specs.Paths.{Names, fits}
 use Rattle.dc_cli.proofs.CommitLemmas.{way_more}
 use Rattle.dc_cli.proofs.MakeLemmas.{way_is}
-use Rattle.dc_cli.specs.Items.{fits}
 use Rattle.dc_cli.proofs.commit.way_on.Goals as goal
 
 pub returns-in-Ok-clause-way : goal.returns-in-Ok-clause-way

@@ -79,6 +79,7 @@ walk_dir-loop-name-preserved g t c =
       tree = c.walk_child.ensures.tree ∙ c.loop-name.invariant.tree;
       rest = c.walk_child.ensures.rest ∙ c.loop-name.invariant.rest;
       later = omega (arith, c.walk_child.ensures.cause.later);
+      calm = c.walk_child.ensures.calm ∙ c.loop-name.invariant.calm;
       still = c.in_ok-walk_child.ensures.cause.still ∙ c.loop-name.invariant.still;
       walking = walking_step c.args.dir.now names c.name-item.result c.loop-name.name-index (g.S.Store.tree c.args.source.now) c.args.items.now c.loop-name.items c.walk_child.new.items c.loop-name-test.true here
           (subst (IsStrictlySortedBy (slice_cmp nat_cmp)) (sym c.as_slice-name-items.ensures) c.in_ok-names.ensures.ascending)

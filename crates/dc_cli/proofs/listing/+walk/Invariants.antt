@@ -1,4 +1,5 @@
 use Rattle.std.proofs.Common.{◌≡◌, ◌≤◌, length, ◌+◌, ◌-◌, ◌*◌}
+use Rattle.dc_fs.specs.Causes.{steady_at}
 use Rattle.dc_cli.proofs.ListingLemmas.{Walking}
 use Rattle.dc_cli.proofs.listing.+walk.Given as goal
 
@@ -13,6 +14,7 @@ invariant-walk_dir-loop-name g l = record {
   tree : g.S.Store.tree l.source ≡ g.S.Store.tree l.fn.source;
   rest : g.S.Store.rest l.source ≡ g.S.Store.rest l.fn.source;
   later : g.S.Store.faults l.fn.source ≤ g.S.Store.faults l.source;
+  calm : steady_at (g.S.Store.steady l.source) (g.S.Store.faults l.source) ≡ steady_at (g.S.Store.steady l.fn.source) (g.S.Store.faults l.fn.source);
   still : g.S.Store.faults l.source ≡ g.S.Store.faults l.fn.source;
   walking : Walking l.dir l.name-items l.name-index (g.S.Store.tree l.fn.source) l.fn.items l.items;
 }

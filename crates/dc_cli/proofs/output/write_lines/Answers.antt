@@ -14,7 +14,7 @@ pub returns-in_ok-write_counters-in-Committed-clause-stopped : goal.returns-in_o
 unfolding outcome_text
 returns-in_ok-write_counters-in-Committed-clause-stopped g c =
     rw c.in-Committed.is
-    (stopped_second c.write_line.result (counter_lines c.args.counts.now) (line (codes "committed")) (g.O.Sink.bytes c.args.out.now) (g.O.Sink.bytes c.write_counters.new.out) (g.O.Sink.bytes c.write_line.new.out)
+    (stopped_second c.write_line.result (g.O.Sink.limit c.args.out.now) (g.O.Sink.limit c.write_counters.new.out) c.write_counters.ensures.limit (counter_lines c.args.counts.now) (line (codes "committed")) (g.O.Sink.bytes c.args.out.now) (g.O.Sink.bytes c.write_counters.new.out) (g.O.Sink.bytes c.write_line.new.out)
     c.in_ok-write_counters-in-Committed.ensures.taken c.write_line.ensures.stopped)
 
 pub returns-in-BadOption-clause-taken : goal.returns-in-BadOption-clause-taken

@@ -9,7 +9,7 @@ returns-in_err-write_name-clause-stopped g c =
     let is : slice_get c.args.path.now c.loop-place.place ≡ Some c.in-Some.name.now = sym c.in-Some.ensures in
     rw (text_joined c.args.path.now some)
     (stopped_at (λ (name : List ℕ). 47 ∷ name) c.args.path.now c.loop-place.place c.in-Some.name.now (g.O.Sink.bytes c.args.out.now) (g.O.Sink.bytes c.loop-place.out) (g.O.Sink.bytes c.write_name.new.out)
-    is c.loop-place.invariant.taken c.from_residual.result c.in_err-write_name.ensures.stopped)
+    is c.loop-place.invariant.taken (g.O.Sink.limit c.args.out.now) (g.O.Sink.limit c.loop-place.out) c.loop-place.invariant.limit c.from_residual.result c.in_err-write_name.ensures.stopped)
 
 pub loop-place-preserved : goal.loop-place-preserved
 loop-place-preserved g c =
@@ -18,6 +18,7 @@ loop-place-preserved g c =
         taken =
             takes_next (λ (name : List ℕ). 47 ∷ name) c.args.path.now c.loop-place.place w.in-Some.name.now (g.O.Sink.bytes c.args.out.now) (g.O.Sink.bytes c.loop-place.out) (g.O.Sink.bytes w.write_name.new.out)
             (sym w.in-Some.ensures) c.loop-place.invariant.taken w.in_ok-write_name.ensures.taken;
+        limit = w.write_name.ensures.limit ∙ c.loop-place.invariant.limit;
         later = omega (arith, c.loop-place.invariant.later, w.write_name.ensures.cause.later);
         still = w.in_ok-write_name.ensures.cause.still ∙ c.loop-place.invariant.still;
       })

@@ -15,6 +15,6 @@ pub returns-clause-stopped : goal.returns-clause-stopped
 unfolding outcome_text
 returns-clause-stopped g c =
     rw (← c.as_str.ensures.value)
-    (subst (λ text. OnErr c.write_pieces.result (WriteStops text (g.O.Sink.bytes c.args.out.now) (g.O.Sink.bytes c.write_pieces.new.out)))
+    (subst (λ text. OnErr c.write_pieces.result (WriteStops (g.O.Sink.limit c.args.out.now) text (g.O.Sink.bytes c.args.out.now) (g.O.Sink.bytes c.write_pieces.new.out)))
     (sym (line_in_row (codes "distcp: path too long: ") c.as_str.result.now (codes " in ") (text_of c.args.parent.now)))
     c.write_pieces.ensures.stopped)
