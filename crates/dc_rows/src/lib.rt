@@ -4,9 +4,15 @@
 #[cfg(test)]
 mod attributes;
 #[cfg(test)]
+mod changes;
+#[cfg(test)]
+mod digests;
+#[cfg(test)]
 mod faults;
 #[cfg(test)]
 mod fixtures;
+#[cfg(test)]
+mod forks;
 #[cfg(test)]
 mod sameness;
 #[cfg(test)]

@@ -4,15 +4,15 @@ use Rattle.dc_path.specs.Names.{same_name}
 use Rattle.dc_path.specs.Paths.{Names}
 use Rattle.dc_attrs.specs.Attributes.{default_dir}
 use Rattle.dc_attrs.specs.Trees.{Node, IsTree, IsDirAt}
-use Rattle.dc_runs.specs.Worked.{folder, file, bare, small_tree}
+use Rattle.dc_runs.specs.Worked.{folder, file, root_alone, small_tree}
 
 -- ---- the root alone
-bare_parent : (p : Names) (x : List ℕ) (n : Node) → bare (p ++ x ∷ []) ≡ Some n → IsDirAt bare p
+bare_parent : (p : Names) (x : List ℕ) (n : Node) → root_alone (p ++ x ∷ []) ≡ Some n → IsDirAt root_alone p
 bare_parent [] x n h = (default_dir, refl)
-bare_parent (y ∷ q) x n h = let none : bare (y ∷ (q ++ x ∷ [])) ≡ None = refl in cc
+bare_parent (y ∷ q) x n h = let none : root_alone (y ∷ (q ++ x ∷ [])) ≡ None = refl in cc
 
-pub bare_is_tree : IsTree bare
-bare_is_tree = record { root = (default_dir, refl); parents = bare_parent }
+pub alone_is_tree : IsTree root_alone
+alone_is_tree = record { root = (default_dir, refl); parents = bare_parent }
 
 -- ---- the small directory
 and_false : (c : Bool) → (c && false) ≡ false
@@ -41,4 +41,4 @@ small_parent name (y ∷ z ∷ w ∷ q) x n h = let none = long_none name y z w 
 pub small_is_tree : (name : List ℕ) → IsTree (small_tree name)
 small_is_tree name = record { root = (default_dir, refl); parents = small_parent name }
 
-pub ruleset trees = (bare_is_tree, small_is_tree)
+pub ruleset trees = (alone_is_tree, small_is_tree)

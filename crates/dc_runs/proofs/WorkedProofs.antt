@@ -6,11 +6,12 @@ use Rattle.dc_path.specs.Found.{found}
 use Rattle.dc_path.specs.Names.{same_name}
 use Rattle.dc_path.specs.Paths.{Names, same_path, cut, at_cut, is_root, is_above}
 use Rattle.dc_path.proofs.PathLemmas.{append-cut, same_path-true, same_path-refl, same_path-not_below}
-use Rattle.dc_attrs.specs.Trees.{made}
+use Rattle.dc_attrs.specs.Trees.{made, is_dir_node}
 use Rattle.dc_cli.specs.Effects.{AreEffects, AreCounts, effect_at, path_of}
-use Rattle.dc_cli.specs.Listed.{Listing, listed, is_folder}
+use Rattle.dc_cli.specs.Listed.{Listing, listed}
 use Rattle.dc_cli.specs.Result.{copied, IsResult}
-use Rattle.dc_runs.specs.Worked.{folder, file, bare, small_tree, small_effects, small_counts, landed}
+use Rattle.dc_runs.specs.Worked.{folder, file, root_alone, small_tree, small_effects, small_counts, landed}
+use Rattle.dc_path.proofs.Fronts.{is_above-nil}
 
 -- ---- the run
 abbrev d : List ℕ
@@ -55,14 +56,14 @@ pub small_lands : AreEffects listing (d ∷ []) small_effects
 small_lands = record { ascending = refl; landed = λ p. lands_at p _ refl }
 
 -- ---- the listed directory
-no_folder : (hidden is_a is_b : Bool) → false ≡ is_folder (cond hidden None (cond is_a (Some (file (codes "hi"))) (cond is_b (Some (file [])) None)))
+no_folder : (hidden is_a is_b : Bool) → false ≡ is_dir_node (cond hidden None (cond is_a (Some (file (codes "hi"))) (cond is_b (Some (file [])) None)))
 no_folder true is_a is_b = refl
 no_folder false true is_b = refl
 no_folder false false true = refl
 no_folder false false false = refl
 
 abbrev FolderAt : Names → Type 0
-FolderAt rel = list_any (same_path rel) (e ∷ []) ≡ is_folder (listing rel)
+FolderAt rel = list_any (same_path rel) (e ∷ []) ≡ is_dir_node (listing rel)
 
 -- whether a directory is listed there, by whether it is the one
 folder_by : (x : List ℕ) (r : Names) (is_e : Bool) → same_path e (x ∷ r) ≡ is_e → same_path (x ∷ r) e ≡ is_e → FolderAt (x ∷ r)
@@ -95,7 +96,7 @@ left_none true = refl
 left_none false = refl
 
 abbrev LeftAt : Names → Type 0
-LeftAt rel = small_tree d (d ∷ rel) ≡ copied (listing rel) (is_root rel) (bare (d ∷ rel))
+LeftAt rel = small_tree d (d ∷ rel) ≡ copied (listing rel) (is_root rel) (root_alone (d ∷ rel))
 
 left_by : (x : List ℕ) (r : Names) (is_a is_b is_e : Bool) → same_path a (x ∷ r) ≡ is_a → same_path b (x ∷ r) ≡ is_b → same_path e (x ∷ r) ≡ is_e → LeftAt (x ∷ r)
 left_by x r true is_b is_e h k l = subst LeftAt (same_path-true a (x ∷ r) h) refl
@@ -107,22 +108,18 @@ left_under : (rel : Names) → LeftAt rel
 left_under [] = refl
 left_under (x ∷ r) = left_by x r _ _ _ refl refl refl
 
-not_above : (q : Names) → is_above q [] ≡ false
-not_above [] = refl
-not_above (y ∷ q) = refl
-
 -- nothing is above the target but the root, which stands
-above_none : (p : Names) (above : Bool) → is_above p (d ∷ []) ≡ above → bare p ≡ cond above (made (bare p)) (bare p)
+above_none : (p : Names) (above : Bool) → is_above p (d ∷ []) ≡ above → root_alone p ≡ cond above (made (root_alone p)) (root_alone p)
 above_none [] above h = rw (sym h) refl
-above_none (y ∷ q) true h = let up = second_so (same_name y d) (is_above q []) h in let none = not_above q in cc
+above_none (y ∷ q) true h = let up = second_so (same_name y d) (is_above q []) h in let none = is_above-nil q in cc
 above_none (y ∷ q) false h = refl
 
 left_at : (p : Names) (o : Option Names) → cut (d ∷ []) p ≡ o →
-    small_tree d p ≡ at_cut o (cond (is_above p (d ∷ [])) (made (bare p)) (bare p)) (λ rel. copied (listing rel) (is_root rel) (bare p))
+    small_tree d p ≡ at_cut o (cond (is_above p (d ∷ [])) (made (root_alone p)) (root_alone p)) (λ rel. copied (listing rel) (is_root rel) (root_alone p))
 left_at p None h = rw (same_path-not_below (d ∷ []) [] p h, same_path-not_below (d ∷ []) a p h, same_path-not_below (d ∷ []) b p h, same_path-not_below (d ∷ []) e p h) (above_none p _ refl)
 left_at p (Some rel) h = rw (append-cut (d ∷ []) p rel h) (left_under rel)
 
-pub small_left : IsResult listing bare (d ∷ []) (Some (small_tree d))
+pub small_left : IsResult listing root_alone (d ∷ []) (Some (small_tree d))
 small_left p = left_at p _ refl
 
 pub ruleset worked = (small_lands, small_counted, small_left)

@@ -20,8 +20,8 @@ planted [] p = cond (same_path [] p) (Some folder) None
 planted (entry ∷ entries) p = cond (same_path entry.0 p) (Some entry.1) (planted entries p)
 
 -- the root alone
-abbrev pub bare : Tree
-bare = planted []
+abbrev pub root_alone : Tree
+root_alone = planted []
 
 -- a directory with a file of two bytes, an empty file and an empty directory, each under this name
 abbrev pub small_tree : List ℕ → Tree
@@ -45,9 +45,6 @@ snapshot_tree = planted (
     ∷ (codes "src" ∷ codes ".snapshot" ∷ codes "s1" ∷ codes "d1" ∷ codes "f1" ∷ [], file (1 ∷ 2 ∷ 3 ∷ 4 ∷ 5 ∷ 6 ∷ 7 ∷ []))
     ∷ []
     )
-
-abbrev pub snapshot_root : Names
-snapshot_root = codes "src" ∷ codes ".snapshot" ∷ codes "s1" ∷ []
 
 -- ---- what is landed and counted
 -- a file of so many bytes landed

@@ -72,10 +72,10 @@ fn a_directory_is_copied_to_an_empty_target(rt: HostRuntime) -> Result<(), Fail>
 #[test]
 fn missing_directories_are_made_and_hidden_ones_left(rt: HostRuntime) -> Result<(), Fail> {
     let alloc = rt.alloc();
-    let bare = [("/s", Is::Dir)];
+    let root_alone = [("/s", Is::Dir)];
     let bare_copy = [("/d", Is::Dir)];
     assert_eq!(rt;
-        copies(&rt, alloc, &bare, "/s /d", NO_LINES, &bare_copy),
+        copies(&rt, alloc, &root_alone, "/s /d", NO_LINES, &bare_copy),
         Ok(true)
     );
     let one = [("/s", Is::Dir), ("/s/a", Is::File("1"))];

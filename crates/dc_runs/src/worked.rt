@@ -11,30 +11,31 @@ ghost use Rattle.dc_cli.specs.Result.{result as left, IsResult};
 ghost use Rattle.dc_cli.specs.declared.outcome.Outcome.TheVariants.{BadOption, Committed, NoSource, Unbuilt};
 ghost use Rattle.dc_cli.specs.declared.outcome.OptionError.TheVariants.{UnknownOption, BadPath, NoPaths};
 ghost use Rattle.dc_cli.specs.Words.{Asks, options};
-ghost use Rattle.dc_runs.specs.Worked.{folder, file, bare, small_tree, small_effects, small_counts, snapshot_tree, snapshot_root, landed};
+ghost use Rattle.dc_runs.specs.Worked.{folder, file, root_alone, small_tree, small_effects, small_counts, snapshot_tree, landed};
+ghost use Rattle.dc_cli.specs.Drills.{drill_source};
 
 // The source and the target of the small copy are trees.
 #[tactic(auto, using(crate::proofs::TreeProofs::trees))]
 pub fn small_stores()
     ensures source { IsTree (small_tree (codes "s")) }
-    ensures target { IsTree bare }
+    ensures target { IsTree root_alone }
 {}
 
 // A copy of a small directory to an empty target leaves that directory there, and nothing else besides the root.
 #[tactic(auto, using(crate::proofs::WorkedProofs::worked))]
 pub fn small_copy()
-    ensures result { IsResult (listed (small_tree (codes "s")) (codes "s" ∷ [])) bare (codes "d" ∷ []) (Some (small_tree (codes "d"))) }
+    ensures result { IsResult (listed (small_tree (codes "s")) (codes "s" ∷ [])) root_alone (codes "d" ∷ []) (Some (small_tree (codes "d"))) }
 {}
 
 // What that copy leaves, path by path.
 pub fn small_copy_by_path()
-    ensures root { left (listed (small_tree (codes "s")) (codes "s" ∷ [])) bare (codes "d" ∷ []) [] ≡ Some folder }
-    ensures elsewhere { left (listed (small_tree (codes "s")) (codes "s" ∷ [])) bare (codes "d" ∷ []) (codes "n" ∷ []) ≡ None }
-    ensures target { left (listed (small_tree (codes "s")) (codes "s" ∷ [])) bare (codes "d" ∷ []) (codes "d" ∷ []) ≡ Some folder }
-    ensures file { left (listed (small_tree (codes "s")) (codes "s" ∷ [])) bare (codes "d" ∷ []) (codes "d" ∷ codes "a" ∷ []) ≡ Some (file (codes "hi")) }
-    ensures empty { left (listed (small_tree (codes "s")) (codes "s" ∷ [])) bare (codes "d" ∷ []) (codes "d" ∷ codes "b" ∷ []) ≡ Some (file []) }
-    ensures folder { left (listed (small_tree (codes "s")) (codes "s" ∷ [])) bare (codes "d" ∷ []) (codes "d" ∷ codes "e" ∷ []) ≡ Some folder }
-    ensures nothing { left (listed (small_tree (codes "s")) (codes "s" ∷ [])) bare (codes "d" ∷ []) (codes "d" ∷ codes "x" ∷ []) ≡ None }
+    ensures root { left (listed (small_tree (codes "s")) (codes "s" ∷ [])) root_alone (codes "d" ∷ []) [] ≡ Some folder }
+    ensures elsewhere { left (listed (small_tree (codes "s")) (codes "s" ∷ [])) root_alone (codes "d" ∷ []) (codes "n" ∷ []) ≡ None }
+    ensures target { left (listed (small_tree (codes "s")) (codes "s" ∷ [])) root_alone (codes "d" ∷ []) (codes "d" ∷ []) ≡ Some folder }
+    ensures file { left (listed (small_tree (codes "s")) (codes "s" ∷ [])) root_alone (codes "d" ∷ []) (codes "d" ∷ codes "a" ∷ []) ≡ Some (file (codes "hi")) }
+    ensures empty { left (listed (small_tree (codes "s")) (codes "s" ∷ [])) root_alone (codes "d" ∷ []) (codes "d" ∷ codes "b" ∷ []) ≡ Some (file []) }
+    ensures folder { left (listed (small_tree (codes "s")) (codes "s" ∷ [])) root_alone (codes "d" ∷ []) (codes "d" ∷ codes "e" ∷ []) ≡ Some folder }
+    ensures nothing { left (listed (small_tree (codes "s")) (codes "s" ∷ [])) root_alone (codes "d" ∷ []) (codes "d" ∷ codes "x" ∷ []) ≡ None }
 {}
 
 // Its two files land in order, and both and its one directory are counted.
@@ -72,9 +73,9 @@ pub fn small_refusals()
 
 // A source directory in a snapshot is listed, and its files keep their bytes.
 pub fn snapshot_copy()
-    ensures first { left (listed snapshot_tree snapshot_root) bare (codes "d" ∷ []) (codes "d" ∷ codes "d0" ∷ codes "f0" ∷ []) ≡ Some (file []) }
-    ensures second { left (listed snapshot_tree snapshot_root) bare (codes "d" ∷ []) (codes "d" ∷ codes "d1" ∷ codes "f1" ∷ []) ≡ Some (file (1 ∷ 2 ∷ 3 ∷ 4 ∷ 5 ∷ 6 ∷ 7 ∷ [])) }
-    ensures folder { left (listed snapshot_tree snapshot_root) bare (codes "d" ∷ []) (codes "d" ∷ codes "d0" ∷ []) ≡ Some folder }
+    ensures first { left (listed snapshot_tree drill_source) root_alone (codes "d" ∷ []) (codes "d" ∷ codes "d0" ∷ codes "f0" ∷ []) ≡ Some (file []) }
+    ensures second { left (listed snapshot_tree drill_source) root_alone (codes "d" ∷ []) (codes "d" ∷ codes "d1" ∷ codes "f1" ∷ []) ≡ Some (file (1 ∷ 2 ∷ 3 ∷ 4 ∷ 5 ∷ 6 ∷ 7 ∷ [])) }
+    ensures folder { left (listed snapshot_tree drill_source) root_alone (codes "d" ∷ []) (codes "d" ∷ codes "d0" ∷ []) ≡ Some folder }
     ensures hidden { listed snapshot_tree (codes "src" ∷ []) (codes ".snapshot" ∷ codes "s1" ∷ codes "d0" ∷ []) ≡ None }
-    ensures landed { effect_at (codes "d" ∷ codes "d1" ∷ codes "f1" ∷ []) (listed snapshot_tree snapshot_root (codes "d1" ∷ codes "f1" ∷ [])) ≡ Some (landed (codes "d" ∷ codes "d1" ∷ codes "f1" ∷ []) 7) }
+    ensures landed { effect_at (codes "d" ∷ codes "d1" ∷ codes "f1" ∷ []) (listed snapshot_tree drill_source (codes "d1" ∷ codes "f1" ∷ [])) ≡ Some (landed (codes "d" ∷ codes "d1" ∷ codes "f1" ∷ []) 7) }
 {}

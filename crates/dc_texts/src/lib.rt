@@ -2,6 +2,8 @@
 #![tactic(auto)]
 
 #[cfg(test)]
+mod attribute_lines;
+#[cfg(test)]
 mod bundles;
 #[cfg(test)]
 mod filters;
