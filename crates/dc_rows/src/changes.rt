@@ -76,23 +76,30 @@ fn what_is_removed_goes_with_all_under_it(alloc: Global) -> Result<bool, WriteEr
     Ok(gone && again && root && shows(alloc, &target, "/w", Seen::Dir)?)
 }
 
-fn a_failed_move_is_counted_and_may_be_done(alloc: Global) -> Result<bool, WriteError> {
-    let mut before = failing(alloc, Which::Rename, false)?;
-    let failed = rename(alloc, &mut before, "/x", "/z") == Err(WriteError::Fault);
-    let stays = shows(alloc, &before, "/x", Seen::Dir)? && before.rename_faults() == 1;
-    let mut done = failing(alloc, Which::Rename, true)?;
-    let failed_too = rename(alloc, &mut done, "/x", "/z") == Err(WriteError::Fault);
-    let moved = has_bytes(alloc, done.tree(), "/z/f", b"ab")? && done.rename_faults() == 1;
-    Ok(failed && stays && failed_too && moved)
+// A target on which a move has failed, perhaps after its change; an error where it did not.
+fn failed_move(alloc: Global, done: bool) -> Result<MemTarget, WriteError> {
+    let mut target = failing(alloc, Which::Rename, done)?;
+    match rename(alloc, &mut target, "/x", "/z") {
+        Err(WriteError::Fault) => Ok(target),
+        _ => Err(WriteError::Memory),
+    }
 }
 
-fn a_failed_removal_may_be_done(alloc: Global) -> Result<bool, WriteError> {
-    let mut before = failing(alloc, Which::Remove, false)?;
-    let failed = remove(alloc, &mut before, "/x") == Err(WriteError::Fault);
-    let stays = shows(alloc, &before, "/x", Seen::Dir)?;
-    let mut done = failing(alloc, Which::Remove, true)?;
-    let failed_too = remove(alloc, &mut done, "/x") == Err(WriteError::Fault);
-    Ok(failed && stays && failed_too && shows(alloc, &done, "/x", Seen::Missing)?)
+fn a_failed_move_is_counted(alloc: Global) -> Result<bool, WriteError> {
+    let target = failed_move(alloc, false)?;
+    Ok(target.rename_faults() == 1 && shows(alloc, &target, "/x", Seen::Dir)?)
+}
+
+fn a_move_that_fails_done_is_counted(alloc: Global) -> Result<bool, WriteError> {
+    let target = failed_move(alloc, true)?;
+    Ok(target.rename_faults() == 1 && has_bytes(alloc, target.tree(), "/z/f", b"ab")?)
+}
+
+// Whether a removal fails, perhaps after its change, and `/x` is then shown as this.
+fn fails_to_remove(alloc: Global, done: bool, seen: Seen) -> Result<bool, WriteError> {
+    let mut target = failing(alloc, Which::Remove, done)?;
+    let failed = remove(alloc, &mut target, "/x") == Err(WriteError::Fault);
+    Ok(failed && shows(alloc, &target, "/x", seen)?)
 }
 
 // Attributes of a file that no new file has.
@@ -132,14 +139,20 @@ fn set_attributes_are_there_and_the_bytes_stay(alloc: Global) -> Result<bool, Wr
     is_dressed(alloc, &target, &attrs)
 }
 
-fn a_failed_setting_of_attributes_may_be_done(alloc: Global) -> Result<bool, WriteError> {
+// A target on which a setting of attributes has failed, perhaps after its change; an error where it did not.
+fn failed_dress(alloc: Global, done: bool, attrs: &Attrs) -> Result<MemTarget, WriteError> {
+    let mut target = failing(alloc, Which::SetAttrs, done)?;
+    match dress(alloc, &mut target, attrs) {
+        Err(WriteError::Fault) => Ok(target),
+        _ => Err(WriteError::Memory),
+    }
+}
+
+// Whether the attributes are there after a setting that failed.
+fn is_dressed_by_failure(alloc: Global, done: bool) -> Result<bool, WriteError> {
     let attrs = private(alloc)?;
-    let mut before = failing(alloc, Which::SetAttrs, false)?;
-    let failed = dress(alloc, &mut before, &attrs) == Err(WriteError::Fault);
-    let stays = !is_dressed(alloc, &before, &attrs)?;
-    let mut done = failing(alloc, Which::SetAttrs, true)?;
-    let failed_too = dress(alloc, &mut done, &attrs) == Err(WriteError::Fault);
-    Ok(failed && stays && failed_too && is_dressed(alloc, &done, &attrs)?)
+    let target = failed_dress(alloc, done, &attrs)?;
+    is_dressed(alloc, &target, &attrs)
 }
 
 #[test]
@@ -157,8 +170,11 @@ fn changes_are_made_or_refused(rt: HostRuntime) -> Result<(), test::Fail> {
 #[test]
 fn failed_changes_are_done_or_not(rt: HostRuntime) -> Result<(), test::Fail> {
     let alloc = rt.alloc();
-    assert_eq!(rt; a_failed_move_is_counted_and_may_be_done(alloc), Ok(true));
-    assert_eq!(rt; a_failed_removal_may_be_done(alloc), Ok(true));
-    assert_eq!(rt; a_failed_setting_of_attributes_may_be_done(alloc), Ok(true));
+    assert_eq!(rt; a_failed_move_is_counted(alloc), Ok(true));
+    assert_eq!(rt; a_move_that_fails_done_is_counted(alloc), Ok(true));
+    assert_eq!(rt; fails_to_remove(alloc, false, Seen::Dir), Ok(true));
+    assert_eq!(rt; fails_to_remove(alloc, true, Seen::Missing), Ok(true));
+    assert_eq!(rt; is_dressed_by_failure(alloc, false), Ok(false));
+    assert_eq!(rt; is_dressed_by_failure(alloc, true), Ok(true));
     Ok(())
 }
