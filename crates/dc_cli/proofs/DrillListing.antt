@@ -10,7 +10,7 @@ use Rattle.dc_path.specs.Order.{path_lt, is_ascending}
 use Rattle.dc_path.specs.Paths.{Names, same_path, joined, fits}
 use Rattle.dc_path.proofs.OrderLemmas.{path_lt-apart}
 use Rattle.dc_path.proofs.PathLemmas.{same_path-true, same_path-refl}
-use Rattle.dc_attrs.specs.Trees.{Node, Dir, File, Tree, IsTree, IsDirAt, bare, with_node, seen, is_hidden}
+use Rattle.dc_attrs.specs.Trees.{Node, Dir, File, Tree, IsTree, IsDirAt, bare, seen, is_hidden}
 use Rattle.dc_fs.proofs.ViewLemmas.{both_trees}
 use Rattle.dc_attrs.proofs.TreeLemmas.{seen_from-there}
 use Rattle.dc_path.proofs.Joins.{length-joined-append, length-joined-one}
@@ -20,7 +20,7 @@ use Rattle.dc_cli.specs.Checks.{checked, is_target_fault}
 use Rattle.dc_cli.specs.Verdict.{is_decided, is_denied, IsVerdict, IsRefused, RefusesRun, AsksTooMuch}
 use Rattle.dc_cli.specs.declared.outcome.Outcome.{Outcome}
 use Rattle.dc_cli.specs.declared.outcome.Outcome.TheVariants as outcome
-use Rattle.dc_cli.proofs.DrillLemmas.{dirs_more, drill_asks, of_told}
+use Rattle.dc_cli.proofs.DrillLemmas.{dirs_more, drill_asks}
 use Rattle.dc_cli.proofs.CalmLemmas.{settled}
 use Rattle.dc_attrs.specs.Attributes.{default_file, default_dir}
 use Rattle.dc_cli.specs.Drills.{drill_source, drill_target, drill_tree, dir_path, file_path, file_bytes, file_or}

@@ -1,5 +1,6 @@
 -- Walks of a source directory: what each step adds to the items, and what a store that shows a tree never denies.
-use Rattle.std.proofs.Common.{◌≡◌, ℕ, ◌+◌, ◌<◌, ◌≤◌, List, [], ◌∷◌, ◌++◌, length, map, take, get_or, Bool, true, false, cond, not, ◌&&◌, ◌||◌, Option, Some, None, IfSome, Result, Ok, Err, IfErr, refl, sym, ◌∙◌, ap, subst, append_assoc, arith, zero, suc}
+use Rattle.std.proofs.Common.{◌≡◌, ℕ, ◌+◌, ◌<◌, ◌≤◌, List, [], ◌∷◌, ◌++◌, length, map, take, get_or, Bool, true, false, cond, not, ◌&&◌, ◌||◌, Option, Some, None, IfSome, Result, Ok, Err, IfErr, refl, sym, ◌∙◌, ap, subst, append_assoc, arith, length-append, zero, suc}
+use Rattle.std.proofs.lemmas.Bool.Decides.{nat_tests}
 use Rattle.std.proofs.lemmas.List.{append-nil, map-append, take_more}
 use Rattle.std.proofs.lemmas.List.Folds.{list_all-append, list_any-append}
 use Rattle.std.proofs.lemmas.Map.Keys.{Less-from_sorted}
@@ -24,16 +25,16 @@ use Rattle.dc_fs.specs.Looks.{is_shown, AreNames}
 use Rattle.dc_cli.specs.Items.{rel_of, item_of, fits_under}
 use Rattle.dc_cli.specs.Listed.{Listing, listed}
 use Rattle.dc_cli.specs.Walks.{IsChanged}
-use Rattle.dc_cli.specs.Walking.{child_of, entered, through, item_under, Gains, GainsNames, GainsAll, GainsItem, Keeps, DirStops, ChildStops}
+use Rattle.dc_cli.specs.Walking.{child_of, entered, through, item_under, Gains, GainsNames, GainsAll, GainsItem, Visits, Keeps, DirStops, ChildStops}
 use Rattle.dc_cli.specs.declared.listing.Item.{Item}
-use Rattle.dc_cli.specs.declared.listing.Place.{Place}
+use Rattle.dc_cli.specs.Positions.{Position}
 use Rattle.dc_cli.specs.declared.listing.ListError.{ListError}
 use Rattle.dc_cli.specs.declared.listing.ListError.TheVariants as list_error
 use Rattle.std.proofs.lemmas.Bool.{and_from}
 use Rattle.std.specs.Cmp.{second_so}
 
 -- a walk of a directory that has done i of its names
-pub record Walking (dir : Place) (names : Names) (i : ℕ) (told : Option Tree) (old new : List Item) : Type 0 where
+pub record Walking (dir : Position) (names : Names) (i : ℕ) (told : Option Tree) (old new : List Item) : Type 0 where
   pub kept : Keeps dir old new
   pub added : GainsNames (take i names) told dir old new
   pub next : (k : ℕ) → i ≤ k → k < length names → all_below (map rel_of new) (dir.rel ++ get_or names k [] ∷ []) ≡ true
@@ -226,10 +227,10 @@ all_through s from names (y ∷ r) v a = shown_at s from names y r v a (list_any
     shown_at s from names y r v a false h = sym (not_listed s from y r (is_shown y) v refl (sym (a y) ∙ h))
 
 -- ---- what always holds
-pub keeps_start : (place : Place) (items : List Item) → is_ascending (map rel_of items) ≡ true → length items ≤ 1048576 → Keeps place items items
+pub keeps_start : (place : Position) (items : List Item) → is_ascending (map rel_of items) ≡ true → length items ≤ 1048576 → Keeps place items items
 keeps_start place items a l = record { ascending = a; bound = λ b _ k. k; sources = λ front _ k. k; places = λ front _ k. k; few = l }
 
-pub keeps_then : (dir : Place) (x : List ℕ) (old mid new : List Item) → Keeps dir old mid → Keeps (child_of dir x) mid new → Keeps dir old new
+pub keeps_then : (dir : Position) (x : List ℕ) (old mid new : List Item) → Keeps dir old mid → Keeps (child_of dir x) mid new → Keeps dir old new
 keeps_then dir x old mid new a b = record {
   ascending = b.ascending;
   bound = λ p h k. b.bound p (is_after-child dir.rel p (x ∷ []) h) (a.bound p h k);
@@ -241,7 +242,7 @@ keeps_then dir x old mid new a b = record {
     longer : (front path rel : Names) (x : List ℕ) → path ≡ front ++ rel → path ++ x ∷ [] ≡ front ++ (rel ++ x ∷ [])
     longer front path rel x e = ap (λ (p : Names). p ++ x ∷ []) e ∙ append_assoc front rel (x ∷ [])
 
-keeps_item : (place : Place) (old : List Item) (item : Item) → item.rel ≡ place.rel → is_ascending (map rel_of old) ≡ true → all_below (map rel_of old) place.rel ≡ true → length (old ++ item ∷ []) ≤ 1048576 → fits place.from ≡ true → fits place.to ≡ true → Keeps place old (old ++ item ∷ [])
+keeps_item : (place : Position) (old : List Item) (item : Item) → item.rel ≡ place.rel → is_ascending (map rel_of old) ≡ true → all_below (map rel_of old) place.rel ≡ true → length (old ++ item ∷ []) ≤ 1048576 → fits place.from ≡ true → fits place.to ≡ true → Keeps place old (old ++ item ∷ [])
 keeps_item place old item e a b l f t =
     let rels : map rel_of (old ++ item ∷ []) ≡ map rel_of old ++ place.rel ∷ [] = map-append rel_of old (item ∷ []) ∙ ap (λ (r : Names). map rel_of old ++ r ∷ []) e in
     record {
@@ -257,7 +258,7 @@ keeps_item place old item e a b l f t =
         let one : fits_under front item ≡ true = ap fits (ap (λ (r : Names). front ++ r) e ∙ sym g) ∙ f in
         list_all-append (fits_under front) old (item ∷ []) ∙ and_from _ _ k (and_from _ _ one refl)
 
-pub keeps_push : (place : Place) (old new : List Item) (item : Item) → item.rel ≡ place.rel → is_ascending (map rel_of old) ≡ true → all_below (map rel_of old) place.rel ≡ true → fits place.from ≡ true → fits place.to ≡ true → new ≡ old ++ item ∷ [] → length new ≤ 1048576 → Keeps place old new
+pub keeps_push : (place : Position) (old new : List Item) (item : Item) → item.rel ≡ place.rel → is_ascending (map rel_of old) ≡ true → all_below (map rel_of old) place.rel ≡ true → fits place.from ≡ true → fits place.to ≡ true → new ≡ old ++ item ∷ [] → length new ≤ 1048576 → Keeps place old new
 keeps_push place old new item e a b f t n l = subst (λ (ns : List Item). Keeps place old ns) (sym n) (keeps_item place old item e a b (subst (λ (ns : List Item). length ns ≤ 1048576) n l) f t)
 
 pub below_push : (rel : Names) (old new : List Item) (item : Item) → item.rel ≡ rel → all_below (map rel_of old) rel ≡ true → new ≡ old ++ item ∷ [] → (x : List ℕ) → all_below (map rel_of new) (rel ++ x ∷ []) ≡ true
@@ -267,39 +268,53 @@ below_push rel old new item e b n x =
     ∙ all_below-push_child (map rel_of old) rel x b
 
 -- ---- what stands, by the answer of a look
-pub dir_item : (told : Option Tree) (place : Place) (shown : Seen) (old new : List Item) → shown ≡ seen_as.Dir → IfSome told (λ s. shown ≡ seen s place.from) → new ≡ old ++ (record { rel = place.rel; dir = true; length = 0 }) ∷ [] → GainsItem told place true old new
-dir_item None place shown old new h k n = tt
-dir_item (Some s) place shown old new h k n = let d = dir_at (s place.from) (seen_from-Dir s [] place.from (sym k ∙ h)) in (Dir d.0, d.1, refl, n)
+pub looks_from : (told : Option Tree) (shown : Seen) {a b : Names} → a ≡ b → IfSome told (λ s. shown ≡ seen s a) → IfSome told (λ s. shown ≡ seen s b)
+looks_from told shown e h = subst (λ (path : Names). IfSome told (λ s. shown ≡ seen s path)) e h
 
-pub file_item : (told : Option Tree) (place : Place) (shown : Seen) (count : ℕ) (old new : List Item) → shown ≡ seen_as.File count → IfSome told (λ s. shown ≡ seen s place.from) → new ≡ old ++ (record { rel = place.rel; dir = false; length = count }) ∷ [] → GainsItem told place false old new
-file_item None place shown count old new h k n = tt
-file_item (Some s) place shown count old new h k n =
+pub dir_item : (told : Option Tree) (place : Position) (shown : Seen) (rel : Names) (old new : List Item) → shown ≡ seen_as.Dir → IfSome told (λ s. shown ≡ seen s place.from) → rel ≡ place.rel → new ≡ old ++ (record { rel = rel; dir = true; length = 0 }) ∷ [] → GainsItem told place true old new
+dir_item None place shown rel old new h k r n = tt
+dir_item (Some s) place shown rel old new h k r n =
+    let d = dir_at (s place.from) (seen_from-Dir s [] place.from (sym k ∙ h)) in
+    (Dir d.0, d.1, refl, n ∙ ap (λ (p : Names). old ++ (record { rel = p; dir = true; length = 0 }) ∷ []) r)
+
+pub file_item : (told : Option Tree) (place : Position) (shown : Seen) (rel : Names) (count : ℕ) (old new : List Item) → shown ≡ seen_as.File count → IfSome told (λ s. shown ≡ seen s place.from) → rel ≡ place.rel → new ≡ old ++ (record { rel = rel; dir = false; length = count }) ∷ [] → GainsItem told place false old new
+file_item None place shown rel count old new h k r n = tt
+file_item (Some s) place shown rel count old new h k r n =
     let f = file_at (s place.from) count (seen_from-File s [] place.from count (sym k ∙ h)) in
-    (File f.0 f.1, f.2, refl, n ∙ ap (λ m. old ++ (record { rel = place.rel; dir = false; length = m }) ∷ []) (sym f.3))
+    (File f.0 f.1, f.2, refl, n ∙ ap (λ (p : Names). old ++ (record { rel = p; dir = false; length = count }) ∷ []) r ∙ ap (λ m. old ++ (record { rel = place.rel; dir = false; length = m }) ∷ []) (sym f.3))
+
+-- what was visited, by what was given back
+pub visited_dir : (told : Option Tree) (place inner : Position) (given : Option Position) (old new : List Item) → given ≡ Some inner → Visits told place given old new → GainsItem told place true old new × (inner ≡ place)
+visited_dir told place inner None old new e v = cc
+visited_dir told place inner (Some dir) old new e v = let k : dir ≡ inner = cc in (v.added, sym k ∙ v.back)
+
+pub visited_file : (told : Option Tree) (place : Position) (given : Option Position) (old new : List Item) → given ≡ None → Visits told place given old new → GainsItem told place false old new
+visited_file told place None old new e v = v.added
+visited_file told place (Some dir) old new e v = cc
 
 -- no look at what stands shows it missing
 shows_it : (node : Node) (shown : Seen) → shown ≡ seen_node (Some node) → (shown ≡ seen_as.Missing → ⊥) × (shown ≡ seen_as.NotDir → ⊥)
 shows_it (Dir a) shown h = (λ k. cc, λ k. cc)
 shows_it (File b a) shown h = (λ k. cc, λ k. cc)
 
-pub never_missing : {T : Type 0} (told : Option Tree) (place : Place) (shown : Seen) (r : Result T ListError) → shown ≡ seen_as.Missing → IfSome told (λ s. shown ≡ seen s place.from) → IfErr r (λ e. ChildStops e told place)
+pub never_missing : {T : Type 0} (told : Option Tree) (place : Position) (shown : Seen) (r : Result T ListError) → shown ≡ seen_as.Missing → IfSome told (λ s. shown ≡ seen s place.from) → IfErr r (λ e. ChildStops e told place)
 never_missing told place shown (Ok x) h k = tt
 never_missing None place shown (Err e) h k = tt
 never_missing (Some s) place shown (Err e) h k = λ v _ n. (shows_it n.0 shown (k ∙ seen_from-there s [] place.from n.0 v n.1)).0 h
 
-pub never_not_dir : {T : Type 0} (told : Option Tree) (place : Place) (shown : Seen) (r : Result T ListError) → shown ≡ seen_as.NotDir → IfSome told (λ s. shown ≡ seen s place.from) → IfErr r (λ e. ChildStops e told place)
+pub never_not_dir : {T : Type 0} (told : Option Tree) (place : Position) (shown : Seen) (r : Result T ListError) → shown ≡ seen_as.NotDir → IfSome told (λ s. shown ≡ seen s place.from) → IfErr r (λ e. ChildStops e told place)
 never_not_dir told place shown (Ok x) h k = tt
 never_not_dir None place shown (Err e) h k = tt
 never_not_dir (Some s) place shown (Err e) h k = λ v _ n. (shows_it n.0 shown (k ∙ seen_from-there s [] place.from n.0 v n.1)).1 h
 
 -- ---- the steps of a walk
-pub file_added : (told : Option Tree) (dir : Place) (x : List ℕ) (old new : List Item) → is_shown x ≡ true → GainsItem told (child_of dir x) false old new → GainsNames (x ∷ []) told dir old new
+pub file_added : (told : Option Tree) (dir : Position) (x : List ℕ) (old new : List Item) → is_shown x ≡ true → GainsItem told (child_of dir x) false old new → GainsNames (x ∷ []) told dir old new
 file_added None dir x old new h g = tt
 file_added (Some s) dir x old new h g = λ v.
     gains_as dir.rel (only (x ∷ []) g.0) (through (x ∷ []) (listed s dir.from)) old new (λ rest. file_through s dir.from x g.0 rest v h g.1 g.2)
     (subst (λ (ns : List Item). Gains dir.rel (only (x ∷ []) g.0) old ns) (sym g.3) (gains_push dir.rel (x ∷ []) g.0 old))
 
-pub dir_added : (told : Option Tree) (dir : Place) (x : List ℕ) (old mid new : List Item) → is_shown x ≡ true → GainsItem told (child_of dir x) true old mid → GainsAll told (child_of dir x) mid new → GainsNames (x ∷ []) told dir old new
+pub dir_added : (told : Option Tree) (dir : Position) (x : List ℕ) (old mid new : List Item) → is_shown x ≡ true → GainsItem told (child_of dir x) true old mid → GainsAll told (child_of dir x) mid new → GainsNames (x ∷ []) told dir old new
 dir_added None dir x old mid new h g a = tt
 dir_added (Some s) dir x old mid new h g a = λ v.
     gains_then dir.rel (only (x ∷ []) g.0) (below x (listed s (dir.from ++ x ∷ []))) (through (x ∷ []) (listed s dir.from)) old mid new (λ rest. dir_through s dir.from x g.0 rest h g.1)
@@ -309,30 +324,44 @@ dir_added (Some s) dir x old mid new h g a = λ v.
 pub names_ascend : (names : Names) (i k : ℕ) → IsStrictlySortedBy (slice_cmp nat_cmp) names → i < k → k < length names → name_lt (get_or names i []) (get_or names k []) ≡ true
 names_ascend names i k a h l = name_lt-cmp (get_or names i []) (get_or names k []) ∙ ap is_lt (Less-from_sorted (slice_cmp nat_cmp) names i k [] a h l)
 
-pub walking_step : (dir : Place) (names : Names) (x : List ℕ) (i : ℕ) (told : Option Tree) (old mid new : List Item) → i < length names → x ≡ get_or names i [] → IsStrictlySortedBy (slice_cmp nat_cmp) names → Walking dir names i told old mid → Keeps (child_of dir x) mid new → GainsNames (x ∷ []) told dir mid new → Walking dir names (i + 1) told old new
+pub walking_step : (dir : Position) (names : Names) (x : List ℕ) (i : ℕ) (told : Option Tree) (old mid new : List Item) → i < length names → x ≡ get_or names i [] → IsStrictlySortedBy (slice_cmp nat_cmp) names → Walking dir names i told old mid → Keeps (child_of dir x) mid new → GainsNames (x ∷ []) told dir mid new → Walking dir names (i + 1) told old new
 walking_step dir names x i told old mid new l e a w k g = record {
   kept = keeps_then dir x old mid new w.kept k;
   added = subst (λ (ns : Names). GainsNames ns told dir old new) (ap (λ (y : List ℕ). take i names ++ y ∷ []) e ∙ sym (take_more names i [] l)) (one_more (take i names) x told dir old mid new w.added g);
   next = λ j le lt. k.bound (dir.rel ++ get_or names j [] ∷ []) (is_after-sibling dir.rel x (get_or names j []) (ap (λ (y : List ℕ). name_lt y (get_or names j [])) e ∙ names_ascend names i j a (omega arith) lt)) (w.next j (omega arith) lt);
 }
   where
-    one_more : (names : Names) (x : List ℕ) (told : Option Tree) (dir : Place) (old mid new : List Item) → GainsNames names told dir old mid → GainsNames (x ∷ []) told dir mid new → GainsNames (names ++ x ∷ []) told dir old new
+    one_more : (names : Names) (x : List ℕ) (told : Option Tree) (dir : Position) (old mid new : List Item) → GainsNames names told dir old mid → GainsNames (x ∷ []) told dir mid new → GainsNames (names ++ x ∷ []) told dir old new
     one_more names x None dir old mid new a b = tt
     one_more names x (Some s) dir old mid new a b = λ v.
         gains_then dir.rel (through names (listed s dir.from)) (through (x ∷ []) (listed s dir.from)) (through (names ++ x ∷ []) (listed s dir.from)) old mid new (through_more names x (listed s dir.from)) (a v) (b v)
 
-pub walking_end : (dir : Place) (names : Names) (told : Option Tree) (old new : List Item) → IfSome told (λ s. AreNames s dir.from names) → GainsNames names told dir old new → GainsAll told dir old new
+pub walking_end : (dir : Position) (names : Names) (told : Option Tree) (old new : List Item) → IfSome told (λ s. AreNames s dir.from names) → GainsNames names told dir old new → GainsAll told dir old new
 walking_end dir names None old new a g = tt
 walking_end dir names (Some s) old new a g = λ v. gains_as dir.rel (through names (listed s dir.from)) (listed s dir.from) old new (λ rest. all_through s dir.from names rest v a) (g v)
 
 -- ---- places and names of a walk
-entered_at : (a b : Bool) (dir child place : Place) (x : List ℕ) → cond a (cond b (Ok child) (Err (list_error.TooLong dir.to x))) (Err (list_error.TooLong dir.from x)) ≡ Ok place → child ≡ place
+entered_at : (a b : Bool) (dir child place : Position) (x : List ℕ) → cond a (cond b (Ok child) (Err (list_error.TooLong dir.to x))) (Err (list_error.TooLong dir.from x)) ≡ Ok place → child ≡ place
 entered_at true true dir child place x h = cc
 entered_at true false dir child place x h = cc
 entered_at false b dir child place x h = cc
 
-pub entered_is : (dir place : Place) (x : List ℕ) → entered dir x ≡ Ok place → child_of dir x ≡ place
+pub entered_is : (dir place : Position) (x : List ℕ) → entered dir x ≡ Ok place → child_of dir x ≡ place
 entered_is dir place x h = entered_at (fits (dir.from ++ x ∷ [])) (fits (dir.to ++ x ∷ [])) dir (child_of dir x) place x h
+
+-- what has a name in a directory stands one name deeper, within the limits
+allowed_in : (a b : Bool) (dir child place : Position) (x : List ℕ) → cond a (cond b (Ok child) (Err (list_error.TooLong dir.to x))) (Err (list_error.TooLong dir.from x)) ≡ Ok place → a ≡ true
+allowed_in true b dir child place x h = refl
+allowed_in false b dir child place x h = cc
+
+few_names : (path : Names) → fits path ≡ true → length path ≤ 256
+few_names path h = grind (arith, nat_tests)
+
+pub deeper : (dir place inner : Position) (x : List ℕ) → entered dir x ≡ Ok place → inner ≡ place → (length inner.from ≡ length dir.from + 1) × (length dir.from + 1 ≤ 256)
+deeper dir place inner x h e =
+    let one : length (dir.from ++ x ∷ []) ≡ length dir.from + 1 = length-append dir.from (x ∷ []) in
+    let few = few_names (dir.from ++ x ∷ []) (allowed_in (fits (dir.from ++ x ∷ [])) (fits (dir.to ++ x ∷ [])) dir (child_of dir x) place x h) in
+    (ap (λ (p : Position). length p.from) (e ∙ sym (entered_is dir place x h)) ∙ one, omega (arith, one, few))
 
 pub name_at : (names : Names) (i : ℕ) (x : List ℕ) → i < length names → x ≡ get_or names i x → x ≡ get_or names i []
 name_at [] i x l e = absurd (omega arith)
@@ -362,11 +391,19 @@ among (y ∷ names) (suc i) x l e = or_true (same_name x y) (list_any (same_name
     or_true false b h = h
 
 -- ---- what a store that tells its tree never denies
-pub dir_denied : (e : ListError) (told : Option Tree) (dir : Place) → (IsChanged e → IfSome told (λ s. seen s dir.from ≡ seen_as.Dir → ⊥)) → DirStops e told dir
+pub dir_denied : (e : ListError) (told : Option Tree) (dir : Position) → (IsChanged e → IfSome told (λ s. seen s dir.from ≡ seen_as.Dir → ⊥)) → DirStops e told dir
 dir_denied e None dir h = tt
 dir_denied e (Some s) dir h = λ v c d. h c (seen_from-there s [] dir.from (Dir d.0) v d.1)
 
-pub child_denied : (e : ListError) (told : Option Tree) (dir : Place) (names : Names) (i : ℕ) (x : List ℕ) → i < length names → x ≡ get_or names i [] → IfSome told (λ s. AreNames s dir.from names) → ChildStops e told (child_of dir x) → DirStops e told dir
+pub under_stops : (e : ListError) (told : Option Tree) (place : Position) (old new : List Item) → GainsItem told place true old new → DirStops e told place → ChildStops e told place
+under_stops e None place old new g h = tt
+under_stops e (Some s) place old new g h = λ v c _. h v c (is_dir_at g.0 g.1 g.2)
+  where
+    is_dir_at : (n : Node) → s place.from ≡ Some n → is_dir n ≡ true → IsDirAt s place.from
+    is_dir_at (Dir a) k d = (a, k)
+    is_dir_at (File b a) k d = cc
+
+pub child_denied : (e : ListError) (told : Option Tree) (dir : Position) (names : Names) (i : ℕ) (x : List ℕ) → i < length names → x ≡ get_or names i [] → IfSome told (λ s. AreNames s dir.from names) → ChildStops e told (child_of dir x) → DirStops e told dir
 child_denied e None dir names i x l f a h = tt
 child_denied e (Some s) dir names i x l f a h = λ v c d. h v c (there_is (s (dir.from ++ x ∷ [])) (second_so (is_shown x) (is_some (s (dir.from ++ x ∷ []))) (sym (a x) ∙ among names i x l f)))
 

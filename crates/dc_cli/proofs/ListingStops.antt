@@ -22,7 +22,7 @@ use Rattle.dc_cli.specs.Listed.{Listing, listed}
 use Rattle.dc_cli.specs.Walks.{both_fit, AreBefore, IsTooLong, IsTooMany, IfTooLong}
 use Rattle.dc_cli.specs.Walking.{child_of, entered, through, before, Gains, GainsNames, GainsItem, Keeps, IsLimit, IsPassed, StopsAt, DirPasses, ChildPasses, IsFull}
 use Rattle.dc_cli.specs.declared.listing.Item.{Item}
-use Rattle.dc_cli.specs.declared.listing.Place.{Place}
+use Rattle.dc_cli.specs.Positions.{Position, top_of}
 use Rattle.dc_cli.specs.declared.listing.ListError.{ListError}
 use Rattle.dc_cli.specs.declared.listing.ListError.TheVariants as list_error
 use Rattle.dc_cli.proofs.ListingLemmas.{gains_then, gains_as, gains_nothing, gains_push, gains_down, only, below, through_one, dir_rest, not_listed, names_ascend, among, none_either}
@@ -77,7 +77,7 @@ nothing_before x L (y ∷ r) = sym (
 there_through : (s : Tree) (from : Names) (x : List ℕ) (node : Node) (r : Names) (o : Option Node) → listed s from (x ∷ r) ≡ o → through (x ∷ []) (listed s from) (x ∷ r) ≡ o
 there_through s from x node r o h = through_one x x (listed s from) r ∙ ap (λ b. cond b (listed s from (x ∷ r)) None) (same_name-refl x) ∙ h
 
-pub stop_here : (e : ListError) (s : Tree) (dir : Place) (x : List ℕ) (items : List Item) → is_shown x ≡ true → IsThere s (dir.from ++ x ∷ []) → IsPassed e (dir.from ++ x ∷ []) (dir.to ++ x ∷ []) items → StopsAt e (through (x ∷ []) (listed s dir.from)) dir items items
+pub stop_here : (e : ListError) (s : Tree) (dir : Position) (x : List ℕ) (items : List Item) → is_shown x ≡ true → IsThere s (dir.from ++ x ∷ []) → IsPassed e (dir.from ++ x ∷ []) (dir.to ++ x ∷ []) items → StopsAt e (through (x ∷ []) (listed s dir.from)) dir items items
 stop_here e s dir x items h n p =
     record {
       rest = x ∷ [];
@@ -122,7 +122,7 @@ dir_before s from x node stop (y ∷ q) h e n = before_at (name_case x y) ∙ sy
         ∙ sym (ap (λ b. cond (name_lt y x || (same_name y x && path_lt q stop)) (cond b (listed s from (y ∷ q)) None) None) t
         ∙ none_either (name_lt y x || (same_name y x && path_lt q stop)))
 
-pub stop_under : (e : ListError) (s : Tree) (dir : Place) (x : List ℕ) (old mid new : List Item) → is_shown x ≡ true → GainsItem (Some s) (child_of dir x) true old mid → StopsAt e (listed s (dir.from ++ x ∷ [])) (child_of dir x) mid new → StopsAt e (through (x ∷ []) (listed s dir.from)) dir old new
+pub stop_under : (e : ListError) (s : Tree) (dir : Position) (x : List ℕ) (old mid new : List Item) → is_shown x ≡ true → GainsItem (Some s) (child_of dir x) true old mid → StopsAt e (listed s (dir.from ++ x ∷ [])) (child_of dir x) mid new → StopsAt e (through (x ∷ []) (listed s dir.from)) dir old new
 stop_under e s dir x old mid new h g w =
     let there : s (dir.from ++ x ∷ []) ≡ Some g.0 = g.1 in
     let top = not_top s (dir.from ++ x ∷ []) w.rest w.listed in
@@ -178,7 +178,7 @@ through_there x L (y ∷ r) h = there_at (name_case x y) (sym (ap is_some (throu
     there_at (same e k) h = (r, ap (λ (v : List ℕ). v ∷ r) (sym k), sym (ap (λ b. is_some (cond b (L (y ∷ r)) None)) e) ∙ h)
     there_at (other e k) h = let f : false ≡ true = sym (ap (λ b. is_some (cond b (L (y ∷ r)) None)) e) ∙ h in cc
 
-pub stop_in_loop : (e : ListError) (s : Tree) (dir : Place) (names : Names) (i : ℕ) (x : List ℕ) (old mid new : List Item) → IsTree s → AreNames s dir.from names → IsStrictlySortedBy (slice_cmp nat_cmp) names → i < length names → x ≡ get_or names i [] →
+pub stop_in_loop : (e : ListError) (s : Tree) (dir : Position) (names : Names) (i : ℕ) (x : List ℕ) (old mid new : List Item) → IsTree s → AreNames s dir.from names → IsStrictlySortedBy (slice_cmp nat_cmp) names → i < length names → x ≡ get_or names i [] →
     Gains dir.rel (through (take i names) (listed s dir.from)) old mid → StopsAt e (through (x ∷ []) (listed s dir.from)) dir mid new → StopsAt e (listed s dir.from) dir old new
 stop_in_loop e s dir names i x old mid new v a o l h g w =
     let there = through_there x (listed s dir.from) w.rest w.listed in
@@ -199,7 +199,7 @@ not_memory (list_error.Changed path) h = absurd h
 not_memory list_error.Fault h = absurd h
 not_memory list_error.Memory h = absurd h
 
-refused_at : (a b : Bool) (e : ListError) (dir : Place) (child : Place) (x : List ℕ) (items : List Item) → fits (dir.from ++ x ∷ []) ≡ a → fits (dir.to ++ x ∷ []) ≡ b →
+refused_at : (a b : Bool) (e : ListError) (dir : Position) (child : Position) (x : List ℕ) (items : List Item) → fits (dir.from ++ x ∷ []) ≡ a → fits (dir.to ++ x ∷ []) ≡ b →
     cond a (cond b (Ok child) (Err (list_error.TooLong dir.to x))) (Err (list_error.TooLong dir.from x)) ≡ Err e → IsPassed e (dir.from ++ x ∷ []) (dir.to ++ x ∷ []) items
 refused_at true true e dir child x items f t h = cc
 refused_at true false e dir child x items f t h =
@@ -212,18 +212,18 @@ refused_at false b e dir child x items f t h =
     (ap (λ c. c && fits (dir.to ++ x ∷ [])) f, sym (ap (λ c. cond c (dir.to ++ x ∷ []) (dir.from ++ x ∷ [])) f))
 
 -- a child's path that passes a limit
-pub place_passes : (e : ListError) (told : Option Tree) (dir : Place) (x : List ℕ) (items : List Item) → is_shown x ≡ true → (e ≢ list_error.Memory → entered dir x ≡ Err e) → ChildPasses e told dir x items items
+pub place_passes : (e : ListError) (told : Option Tree) (dir : Position) (x : List ℕ) (items : List Item) → is_shown x ≡ true → (e ≢ list_error.Memory → entered dir x ≡ Err e) → ChildPasses e told dir x items items
 place_passes e None dir x items h k = tt
 place_passes e (Some s) dir x items h k = λ v there lim.
     stop_here e s dir x items h there (refused_at (fits (dir.from ++ x ∷ [])) (fits (dir.to ++ x ∷ [])) e dir (child_of dir x) x items refl refl (k (not_memory e lim)))
 
-allowed_at : (a b : Bool) (dir child place : Place) (x : List ℕ) → cond a (cond b (Ok child) (Err (list_error.TooLong dir.to x))) (Err (list_error.TooLong dir.from x)) ≡ Ok place → (a ≡ true) × (b ≡ true)
+allowed_at : (a b : Bool) (dir child place : Position) (x : List ℕ) → cond a (cond b (Ok child) (Err (list_error.TooLong dir.to x))) (Err (list_error.TooLong dir.from x)) ≡ Ok place → (a ≡ true) × (b ≡ true)
 allowed_at true true dir child place x h = (refl, refl)
 allowed_at true false dir child place x h = cc
 allowed_at false b dir child place x h = cc
 
 -- an item too many
-pub item_passes : (e : ListError) (told : Option Tree) (dir place : Place) (x : List ℕ) (old new : List Item) → is_shown x ≡ true → entered dir x ≡ Ok place → new ≡ old → IsFull e old → ChildPasses e told dir x old new
+pub item_passes : (e : ListError) (told : Option Tree) (dir place : Position) (x : List ℕ) (old new : List Item) → is_shown x ≡ true → entered dir x ≡ Ok place → new ≡ old → IsFull e old → ChildPasses e told dir x old new
 item_passes e None dir place x old new h k n f = tt
 item_passes e (Some s) dir place x old new h k n f = λ v there lim.
     let fit = allowed_at (fits (dir.from ++ x ∷ [])) (fits (dir.to ++ x ∷ [])) dir (child_of dir x) place x k in
@@ -232,12 +232,12 @@ item_passes e (Some s) dir place x old new h k n f = λ v there lim.
     subst (λ (ns : List Item). StopsAt e (through (x ∷ []) (listed s dir.from)) dir old ns) (sym n) (stop_here e s dir x old h there passed)
 
 -- a limit passed under a child
-pub under_passes : (e : ListError) (told : Option Tree) (dir : Place) (x : List ℕ) (old mid new : List Item) → is_shown x ≡ true → GainsItem told (child_of dir x) true old mid → DirPasses e told (child_of dir x) mid new → ChildPasses e told dir x old new
+pub under_passes : (e : ListError) (told : Option Tree) (dir : Position) (x : List ℕ) (old mid new : List Item) → is_shown x ≡ true → GainsItem told (child_of dir x) true old mid → DirPasses e told (child_of dir x) mid new → ChildPasses e told dir x old new
 under_passes e None dir x old mid new h g w = tt
 under_passes e (Some s) dir x old mid new h g w = λ v there lim. stop_under e s dir x old mid new h g (w v lim)
 
 -- a limit passed in the loop over the names
-pub loop_passes : (e : ListError) (told : Option Tree) (dir : Place) (names : Names) (i : ℕ) (x : List ℕ) (old mid new : List Item) → IfSome told (λ s. AreNames s dir.from names) → IsStrictlySortedBy (slice_cmp nat_cmp) names → i < length names → x ≡ get_or names i [] →
+pub loop_passes : (e : ListError) (told : Option Tree) (dir : Position) (names : Names) (i : ℕ) (x : List ℕ) (old mid new : List Item) → IfSome told (λ s. AreNames s dir.from names) → IsStrictlySortedBy (slice_cmp nat_cmp) names → i < length names → x ≡ get_or names i [] →
     GainsNames (take i names) told dir old mid → ChildPasses e told dir x mid new → DirPasses e told dir old new
 loop_passes e None dir names i x old mid new a o l h g w = tt
 loop_passes e (Some s) dir names i x old mid new a o l h g w = λ v lim.
@@ -265,9 +265,6 @@ stopped_found listing rest items g q = ap is_some (g q) ∙ some_map (item_of q)
 
 rels_before : (listing : Listing) (rest : Names) (items : List Item) → is_ascending (map rel_of items) ≡ true → Gains [] (before rest listing) [] items → AreBefore listing rest (map rel_of items)
 rels_before listing rest items a g = record { ascending = a; listed = λ q. any-found rel_of items q ∙ stopped_found listing rest items g q }
-
-abbrev pub top_of : Names → Names → Place
-top_of root base = record { from = root; rel = []; to = base }
 
 first_fit : (listing : Listing) (root base rest : Names) (items : List Item) → Keeps (top_of root base) [] items → Gains [] (before rest listing) [] items → (q : Names) → path_lt q rest ≡ true → is_some (listing q) ≡ true → both_fit root base q ≡ true
 first_fit listing root base rest items k g q l h =
@@ -309,16 +306,10 @@ top_too_many (Some s) root base items k h = λ v.
       many = rw length-map w.passed.1;
     }
 
-top_is : (P : Place → Type 0) (top : Place) (root base : Names) → top.from ≡ root → top.rel ≡ [] → top.to ≡ base → P top → P (top_of root base)
-top_is P top root base f r t h =
-    subst (λ (p : Names). P (record { from = root; rel = []; to = p })) t
-    (subst (λ (p : Names). P (record { from = root; rel = p; to = top.to })) r
-    (subst (λ (p : Names). P (record { from = p; rel = top.rel; to = top.to })) f h))
+pub tree_too_long : (e : ListError) (told : Option Tree) (top : Position) (root base : Names) (items : List Item) → top ≡ top_of root base → Keeps top [] items → DirPasses e told top [] items → IfTooLong e (λ parent name. IfSome told (λ s. IsTree s → IsTooLong (listed s root) root base parent name))
+tree_too_long e told top root base items t k h = top_too_long e told root base items (subst (λ (p : Position). Keeps p [] items) t k) (subst (λ (p : Position). DirPasses e told p [] items) t h)
 
-pub tree_too_long : (e : ListError) (told : Option Tree) (top : Place) (root base : Names) (items : List Item) → top.from ≡ root → top.rel ≡ [] → top.to ≡ base → Keeps top [] items → DirPasses e told top [] items → IfTooLong e (λ parent name. IfSome told (λ s. IsTree s → IsTooLong (listed s root) root base parent name))
-tree_too_long e told top root base items f r t k h = top_too_long e told root base items (top_is (λ p. Keeps p [] items) top root base f r t k) (top_is (λ p. DirPasses e told p [] items) top root base f r t h)
-
-pub tree_too_many : (e : ListError) (told : Option Tree) (top : Place) (root base : Names) (items : List Item) → e ≡ list_error.TooMany → top.from ≡ root → top.rel ≡ [] → top.to ≡ base → Keeps top [] items → DirPasses e told top [] items → IfSome told (λ s. IsTree s → IsTooMany (listed s root) root base)
-tree_too_many e told top root base items x f r t k h =
-    top_too_many told root base items (top_is (λ p. Keeps p [] items) top root base f r t k)
-    (subst (λ (d : ListError). DirPasses d told (top_of root base) [] items) x (top_is (λ p. DirPasses e told p [] items) top root base f r t h))
+pub tree_too_many : (e : ListError) (told : Option Tree) (top : Position) (root base : Names) (items : List Item) → e ≡ list_error.TooMany → top ≡ top_of root base → Keeps top [] items → DirPasses e told top [] items → IfSome told (λ s. IsTree s → IsTooMany (listed s root) root base)
+tree_too_many e told top root base items x t k h =
+    top_too_many told root base items (subst (λ (p : Position). Keeps p [] items) t k)
+    (subst (λ (d : ListError). DirPasses d told (top_of root base) [] items) x (subst (λ (p : Position). DirPasses e told p [] items) t h))

@@ -1,5 +1,5 @@
 -- A run that is done: its result, its effects and its counters.
-use Rattle.std.proofs.Common.{◌≡◌, ◌≤◌, Bool, cond, length, List, [], ◌∷◌, ◌++◌, map, Option, Some, None, IfSome, IsSomeAnd, IsTrue, true, false, Result, Ok, Err, OnOk, IfErr, IsErrAnd, refl, sym, ap, ◌∙◌, subst}
+use Rattle.std.proofs.Common.{◌≡◌, ◌≤◌, length, List, ◌++◌, map, Option, Some, None, IfSome, IsSomeAnd, IsTrue, true, false, Result, Ok, Err, OnOk, IfErr, IsErrAnd, refl, sym, ap, ◌∙◌, subst}
 use Rattle.std.specs.Option.{option_map, is_some}
 use Rattle.std.specs.List.{list_all}
 use Rattle.std.proofs.lemmas.List.{length-map}

@@ -9,7 +9,6 @@ use Rattle.dc_path.specs.Paths.{Names, same_path}
 use Rattle.dc_path.proofs.FoundLemmas.{found-before}
 use Rattle.dc_path.proofs.PathOrder.{path_lt-asym}
 use Rattle.dc_path.proofs.PathLemmas.{same_path-refl, same_path-true}
-use Rattle.dc_fs.specs.declared.target.Landed.{Landed}
 use Rattle.dc_cli.specs.Effects.{path_of, counts_of}
 use Rattle.dc_cli.specs.Laws.{EffectsAreOne, FoldersAreOne, CountsAreOne}
 

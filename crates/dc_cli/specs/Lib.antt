@@ -1,6 +1,7 @@
 pub mod Listed
 pub mod Items
 pub mod Walks
+pub mod Positions
 pub mod Walking
 pub mod Result
 pub mod Effects

@@ -14,11 +14,11 @@ use Rattle.dc_cli.specs.declared.copying.CopyError.TheVariants as copy_error
 
 -- a file that is ready, without where it lies in memory
 abbrev pub content_in : {P : Type 0} → (P → Option (List ℕ)) → Ready P → Content
-content_in content file = (file.rel, content file.part)
+content_in content file = (file.rel.now, content file.part)
 
 -- a path under the target and a number of bytes: of a file that is ready, and of one that is listed
 abbrev pub sized_in : {P : Type 0} → (P → ℕ) → Ready P → Names × ℕ
-sized_in size file = (file.rel, size file.part)
+sized_in size file = (file.rel.now, size file.part)
 
 abbrev pub sized_of : Item → Names × ℕ
 sized_of item = (rel_of item, item.length)

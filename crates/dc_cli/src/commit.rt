@@ -192,12 +192,12 @@ fn land_one<T: Target>(
     alloc: Global,
     target: &mut T,
     base: &Path,
-    file: Ready<<T::Desk as Desk>::Temp>,
+    file: Ready<'_, <T::Desk as Desk>::Temp>,
 ) -> Result<(), WriteError>
     requires { 1 ≤ (T.rest target.old).scratch }
-    ensures ok { OnOk result (Landing base.now (content_in T.Desk.Temp.content file) (T.tree target.old) (T.tree target.new) (T.rest target.old) (T.rest target.new)) }
-    ensures changed { IfErr result (λ e. is_refusal e ≡ true → IfSome (T.tree target.old) (λ t. CanLandAt t base.now (content_in T.Desk.Temp.content file) → ⊥)) }
-    ensures sized { OnOk result ((T.rest target.new).landed ≡ (T.rest target.old).landed ++ sized_effect base.now (sized_in T.Desk.Temp.size file) ∷ []) }
+    ensures ok { OnOk result (Landing base.now (content_in T.Desk.Temp.content file.entry) (T.tree target.old) (T.tree target.new) (T.rest target.old) (T.rest target.new)) }
+    ensures changed { IfErr result (λ e. is_refusal e ≡ true → IfSome (T.tree target.old) (λ t. CanLandAt t base.now (content_in T.Desk.Temp.content file.entry) → ⊥)) }
+    ensures sized { OnOk result ((T.rest target.new).landed ≡ (T.rest target.old).landed ++ sized_effect base.now (sized_in T.Desk.Temp.size file.entry) ∷ []) }
     ensures kept { OnErr result (T.rest target.new ≡ T.rest target.old) }
     ensures kept_tree { OnErr result (T.tree target.new ≡ T.tree target.old) }
     ensures desks { KeepsDesks (T.rest target.old) (T.rest target.new) }
@@ -205,7 +205,7 @@ fn land_one<T: Target>(
     ensures calm { steady_at (T.steady target.new) (T.faults target.new) ≡ steady_at (T.steady target.old) (T.faults target.old) }
 {
     let Ready { rel, part } = file;
-    let place = place_under(alloc, base, &rel)?;
+    let place = place_under(alloc, base, rel)?;
     let mut parts = List::new(alloc);
     match parts.push(part) {
         Ok(()) => {}
@@ -219,15 +219,15 @@ pub fn land_all<T: Target>(
     alloc: Global,
     target: &mut T,
     base: &Path,
-    files: Vec<Ready<<T::Desk as Desk>::Temp>>,
+    files: Vec<Ready<'_, <T::Desk as Desk>::Temp>>,
 ) -> Result<(), StepError>
     requires few { length files.items < 2 ^ 64 }
     requires counted { length files.items ≤ (T.rest target.old).scratch }
-    ensures ok { OnOk result (LandsAll base.now (map (content_in T.Desk.Temp.content) files.items) (T.tree target.old) (T.tree target.new) (T.rest target.old) (T.rest target.new)) }
+    ensures ok { OnOk result (LandsAll base.now (map (content_in T.Desk.Temp.content) files.entry.items) (T.tree target.old) (T.tree target.new) (T.rest target.old) (T.rest target.new)) }
     ensures desks { KeepsDesks (T.rest target.old) (T.rest target.new) }
-    ensures sized { OnOk result ((T.rest target.new).landed ≡ (T.rest target.old).landed ++ map (sized_effect base.now) (map (sized_in T.Desk.Temp.size) files.items)) }
-    ensures stops { IfErr result (StopsAfter (LandedUpTo base.now (map (content_in T.Desk.Temp.content) files.items) (T.tree target.old) (T.tree target.new) (T.rest target.old) (T.rest target.new))) }
-    ensures changed { IfErr result (λ e. is_step_changed e ≡ true → IfSome (T.tree target.old) (λ t. CanLandAll t base.now (map (content_in T.Desk.Temp.content) files.items) → ⊥)) }
+    ensures sized { OnOk result ((T.rest target.new).landed ≡ (T.rest target.old).landed ++ map (sized_effect base.now) (map (sized_in T.Desk.Temp.size) files.entry.items)) }
+    ensures stops { IfErr result (StopsAfter (LandedUpTo base.now (map (content_in T.Desk.Temp.content) files.entry.items) (T.tree target.old) (T.tree target.new) (T.rest target.old) (T.rest target.new))) }
+    ensures changed { IfErr result (λ e. is_step_changed e ≡ true → IfSome (T.tree target.old) (λ t. CanLandAll t base.now (map (content_in T.Desk.Temp.content) files.entry.items) → ⊥)) }
     ensures later { T.faults target.old ≤ T.faults target.new }
     ensures calm { steady_at (T.steady target.new) (T.faults target.new) ≡ steady_at (T.steady target.old) (T.faults target.old) }
     ensures cause { IfErr result (λ e. is_step_fault e ≡ true → Rose (T.faults target.old) (T.faults target.new)) }

@@ -2,6 +2,7 @@
 #![tactic(auto)]
 
 ghost use Rattle.std.specs.Prelude.{◌≡◌, ℕ, ◌+◌, ◌<◌, ◌≤◌, [], ◌++◌, map, filter, take, drop, length, Some, None, IsSome, IfOk, IfErr, IfSome, OnOk, IsErrOf, true, false};
+ghost use Rattle.dc_path.specs.Paths.{fits};
 ghost use Rattle.dc_fs.specs.Causes.{raised, counted, HasCause, steady_at};
 ghost use Rattle.dc_fs.specs.Temporaries.{told_if, more};
 ghost use Rattle.dc_cli.specs.Phases.{file_bytes, is_file_item, contents_of, content_of};
@@ -15,9 +16,9 @@ use std::alloc::{AllocFailed, Global};
 
 /// A file that is ready to land: its path under the target, and the temporary with its bytes.
 #[derive(Drop)]
-pub struct Ready<P> {
-    /// The path under the target.
-    pub rel: Path,
+pub struct Ready<'a, P> {
+    /// The path under the target, of the item whose file it is.
+    pub rel: &'a Path,
     /// The temporary.
     pub part: P,
 }
@@ -201,15 +202,28 @@ pub fn copy_file<S: Store, D: Desk>(
     Ok(temp)
 }
 
+// The path in the source of what is listed at a path under its root. One that passes the limits stands in no store.
+fn source_path(alloc: Global, root: &Path, rel: &Path) -> Result<Path, CopyError>
+    ensures path { IfOk result (λ path. path ≡ root.now ++ rel.now) }
+    ensures changed { IfErr result (λ e. is_changed e ≡ true → fits (root.now ++ rel.now) ≡ false) }
+    ensures no_fault { IfErr result (λ e. is_fault e ≡ false) }
+{
+    match root.join(alloc, rel) {
+        Ok(path) => Ok(path),
+        Err(PathError::Memory) => Err(CopyError::Memory),
+        Err(_) => Err(changed(alloc, rel)),
+    }
+}
+
 // Copies the file of an item to a temporary that is ready to land.
-fn copy_item<S: Store, D: Desk>(
+fn copy_item<'a, S: Store, D: Desk>(
     alloc: Global,
     source: &mut S,
     desk: &mut D,
     root: &Path,
-    item: &Item,
+    item: &'a Item,
     buffer: &mut [u8],
-) -> Result<Ready<D::Temp>, CopyError>
+) -> Result<Ready<'a, D::Temp>, CopyError>
     requires { 0 < length buffer.old }
     ensures tree { S.tree source.new ≡ S.tree source.old }
     ensures rest { S.rest source.new ≡ S.rest source.old }
@@ -223,27 +237,25 @@ fn copy_item<S: Store, D: Desk>(
     ensures copied { IfOk result (λ file. IfSome (S.tree source.old) (λ s. content_in D.Temp.content file ≡ content_of (D.tells desk.old) s root.now item.now)) }
     ensures changed { IfErr result (λ e. is_changed e ≡ true → IfSome (S.tree source.old) (λ s. IsReadable s root.now item.now → ⊥)) }
 {
-    let rel = item.rel.copy(alloc)?;
-    let path = match root.join(alloc, &item.rel) {
-        Ok(path) => path,
-        Err(PathError::Memory) => return Err(CopyError::Memory),
-        Err(_) => return Err(CopyError::Changed { path: rel }),
-    };
+    let path = source_path(alloc, root, &item.rel)?;
     let part = copy_file(alloc, source, desk, &path, item.length, buffer)?;
-    Ok(Ready { rel, part })
+    Ok(Ready {
+        rel: &item.rel,
+        part,
+    })
 }
 
 /// Copies the files of a listing, in its order, to a temporary each.
 ///
 /// `Changed` comes only where the source denies the file of an item, or the item's path in it passes the limits.
-pub fn copy_files<S: Store, D: Desk>(
+pub fn copy_files<'a, S: Store, D: Desk>(
     alloc: Global,
     source: &mut S,
     desk: &mut D,
     root: &Path,
-    items: &[Item],
+    items: &'a [Item],
     buffer: &mut [u8],
-) -> Result<Vec<Ready<D::Temp>>, CopyError>
+) -> Result<Vec<Ready<'a, D::Temp>>, CopyError>
     requires { 0 < length buffer.old }
     ensures tree { S.tree source.new ≡ S.tree source.old }
     ensures rest { S.rest source.new ≡ S.rest source.old }

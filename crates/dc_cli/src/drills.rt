@@ -19,7 +19,7 @@ ghost use Rattle.dc_cli.specs.Output.{lines};
 ghost use Rattle.dc_cli.specs.declared.outcome.Counts.{Counts};
 ghost use Rattle.dc_cli.specs.declared.outcome.Outcome.{Outcome};
 
-use crate::{Answer, Counts, Outcome, distcp, print};
+use crate::{Answer, Outcome, distcp, print_no_memory};
 use dc_attrs::Attrs;
 use dc_fs::Sink;
 use dc_memfs::{Fails, MemSource, MemTarget};
@@ -243,24 +243,6 @@ fn run_setup<R: Threads + Sync, O: Sink>(rt: &R, alloc: Global, setup: Setup, ou
     let mut source = MemSource::new(&tree, &own, &forks);
     let mut target = MemTarget::new(alloc, empty, Fails::none(alloc), Fails::none(alloc));
     distcp(rt, alloc, words.as_slice(), &mut source, &mut target, out)
-}
-
-// Prints that there is no memory for what the run needs.
-fn print_no_memory<O: Sink>(out: &mut O) -> Answer
-    ensures outcome { result.outcome ≡ Outcome.Memory }
-    ensures printed { result.printed ≡ true → O.bytes out.new ≡ option_map (λ old. old ++ lines Outcome.Memory none_counted) (O.bytes out.old) }
-    ensures counts { result.counts ≡ none_counted }
-    ensures later { O.faults out.old ≤ O.faults out.new }
-    ensures cause { result.printed ≡ false → Rose (O.faults out.old) (O.faults out.new) }
-{
-    let mut answer = Answer {
-        outcome: Outcome::Memory,
-        counts: Counts::NONE,
-        moves: 0,
-        printed: false,
-    };
-    answer.printed = print(&answer, out);
-    answer
 }
 
 // What a run's answer makes of a drill.

@@ -98,13 +98,13 @@ fn open_desk<T: Target>(alloc: Global, target: &mut T) -> Result<T::Desk, Outcom
 }
 
 /// Copies the listed files to temporaries of the target.
-fn settle<S: Store, T: Target>(
+fn settle<'a, S: Store, T: Target>(
     alloc: Global,
     source: &mut S,
     target: &mut T,
     root: &Path,
-    items: &[Item],
-) -> Result<Vec<Ready<<T::Desk as Desk>::Temp>>, Outcome>
+    items: &'a [Item],
+) -> Result<Vec<Ready<'a, <T::Desk as Desk>::Temp>>, Outcome>
     requires { length items.now ≤ 1048576 }
     ensures tree { S.tree source.new ≡ S.tree source.old }
     ensures rest { S.rest source.new ≡ S.rest source.old }
@@ -148,17 +148,17 @@ fn finish<T: Target>(
     target: &mut T,
     place: &Path,
     items: &[Item],
-    files: Vec<Ready<<T::Desk as Desk>::Temp>>,
+    files: Vec<Ready<'_, <T::Desk as Desk>::Temp>>,
 ) -> Result<(), Outcome>
     requires few_items { length items.now ≤ 1048576 }
     requires few { length files.items ≤ 1048576 }
     requires counted { length files.items ≤ (T.rest target.old).scratch }
-    ensures finished { OnOk result (Finishes place.now items.now (map (content_in T.Desk.Temp.content) files.items) (T.tree target.old) (T.tree target.new) (T.rest target.old) (T.rest target.new)) }
-    ensures never_denied { IfErr result (λ e. is_denied e ≡ true → IfSome (T.tree target.old) (λ t. CanMakeAll t place.now items.now → CanLandAll (all_made (dir_places place.now items.now) t) place.now (map (content_in T.Desk.Temp.content) files.items) → ⊥)) }
+    ensures finished { OnOk result (Finishes place.now items.now (map (content_in T.Desk.Temp.content) files.entry.items) (T.tree target.old) (T.tree target.new) (T.rest target.old) (T.rest target.new)) }
+    ensures never_denied { IfErr result (λ e. is_denied e ≡ true → IfSome (T.tree target.old) (λ t. CanMakeAll t place.now items.now → CanLandAll (all_made (dir_places place.now items.now) t) place.now (map (content_in T.Desk.Temp.content) files.entry.items) → ⊥)) }
     ensures stops { IfErr result (λ e. is_decided e ≡ false) }
-    ensures sized { OnOk result ((T.rest target.new).landed ≡ (T.rest target.old).landed ++ map (sized_effect place.now) (map (sized_in T.Desk.Temp.size) files.items)) }
+    ensures sized { OnOk result ((T.rest target.new).landed ≡ (T.rest target.old).landed ++ map (sized_effect place.now) (map (sized_in T.Desk.Temp.size) files.entry.items)) }
     ensures desks { KeepsDesks (T.rest target.old) (T.rest target.new) }
-    ensures ends { IfErr result (EndsIn (CommitStops place.now items.now (map (content_in T.Desk.Temp.content) files.items) (T.tree target.old) (T.tree target.new) (T.rest target.old) (T.rest target.new))) }
+    ensures ends { IfErr result (EndsIn (CommitStops place.now items.now (map (content_in T.Desk.Temp.content) files.entry.items) (T.tree target.old) (T.tree target.new) (T.rest target.old) (T.rest target.new))) }
     ensures no_source { IfErr result (λ e. e ≡ Outcome.SourceFault → ⊥) }
     ensures later { T.faults target.old ≤ T.faults target.new }
     ensures calm { steady_at (T.steady target.new) (T.faults target.new) ≡ steady_at (T.steady target.old) (T.faults target.old) }

@@ -9,13 +9,11 @@ pub mod laws;
 mod listing;
 mod outcome;
 mod output;
-mod stdout;
 mod survey;
 mod top;
 mod words;
 
 pub use drills::{Drilled, MAX_COUNT, MIN_COUNT, drill};
 pub use outcome::{Answer, BadTarget, Counts, OptionError, Outcome, Phase, TooManyOf};
-pub use output::{print, status};
-pub use stdout::StdSink;
+pub use output::{print, print_no_memory, status};
 pub use top::distcp;

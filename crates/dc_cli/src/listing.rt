@@ -15,13 +15,15 @@ ghost use Rattle.dc_fs.specs.Looks.{is_shown, AreNames};
 ghost use Rattle.dc_cli.specs.Items.{rel_of, fits_under, AreItems};
 ghost use Rattle.dc_cli.specs.Listed.{listed};
 ghost use Rattle.dc_cli.specs.Walks.{IsChanged, IfTooLong, IsTooLong, IsTooMany};
-ghost use Rattle.dc_cli.specs.Walking.{IsShorter, stepped, child_of, entered, GainsNames, GainsAll, GainsItem, Keeps, DirStops, ChildStops, IsLimit, DirPasses, ChildPasses, IsFull};
-ghost use Rattle.dc_path.specs.Paths.{fits};
+ghost use Rattle.dc_cli.specs.Walking.{stepped, child_of, entered, GainsNames, GainsAll, Visits, Keeps, DirStops, ChildStops, IsLimit, DirPasses, ChildPasses, IsFull};
+ghost use Rattle.dc_cli.specs.Positions.{top_of};
+ghost use Rattle.dc_path.specs.Paths.{fits, joined, max_bytes};
 
 use dc_attrs::Seen;
 use dc_fs::{ReadError, Store};
-use dc_path::{List, Name, OutOfMemory, Path, PathError};
+use dc_path::{List, MAX_BYTES, MAX_NAMES, Name, OutOfMemory, Path, PathError};
 use std::alloc::Global;
+use std::marker::Model;
 
 /// The most items of a listing.
 pub const MAX_ITEMS: usize = 1_048_576;
@@ -63,19 +65,35 @@ impl From<OutOfMemory> for ListError {
     }
 }
 
-// Where a walk stands.
+// Where a walk stands. It is seen as its three paths; that in the target is the base followed by the path under the source
+// directory, and is within the limits.
 #[derive(Drop)]
-struct Place {
+struct Place<'a> {
     // The path in the source.
     from: Path,
     // The path under the source directory.
     rel: Path,
-    // The path in the target.
-    to: Path,
+    // The directory in the target in which the first names of `rel` stand.
+    base: &'a Path,
+    // How many names the path in the target has.
+    names: usize,
+    // How many bytes these take in its text.
+    bytes: usize,
+}
+
+impl<'a> Model for Place<'a> {
+    ghost use Rattle.std.specs.Prelude.{◌++◌};
+    ghost use Rattle.dc_cli.specs.Positions.{Position, IsMeasured};
+
+    ghost Value = { Position };
+
+    ghost view = { λ p. record { from = p.from; rel = p.rel; to = p.base.now ++ p.rel } };
+
+    ghost invariant = { λ p. IsMeasured (p.base.now ++ p.rel) p.names p.bytes };
 }
 
 // The refusal of a path that passes the limits.
-fn too_long(alloc: Global, parent: &Path, name: &Name) -> Result<Path, ListError>
+fn too_long<T: Drop>(alloc: Global, parent: &Path, name: &Name) -> Result<T, ListError>
     ensures { GivesUnless ListError.Memory result (Err (ListError.TooLong parent.now name.now)) }
 {
     let parent = parent.copy(alloc)?;
@@ -95,27 +113,66 @@ fn step(alloc: Global, dir: &Path, name: &Name) -> Result<Path, ListError>
     }
 }
 
-// A path with a name more, where that is within the limits: then only memory can be short.
-fn longer(alloc: Global, path: &Path, name: &Name) -> Result<Path, OutOfMemory>
-    requires { IsTrue (fits (path.now ++ name.now ∷ [])) }
-    ensures { IfOk result (λ p. p ≡ path.now ++ name.now ∷ []) }
+// How many bytes names take in the text of a path.
+fn count_bytes(names: &[Name]) -> usize
+    requires { length (joined names.now) ≤ max_bytes }
+    ensures { result ≡ length (joined names.now) }
 {
-    match path.child(alloc, name) {
-        Ok(path) => Ok(path),
-        Err(_) => Err(OutOfMemory),
+    let mut bytes = 0usize;
+    for name in names {
+        bytes += name.as_str().len() + 1;
     }
+    bytes
+}
+
+// Where a walk begins.
+fn begin<'a>(alloc: Global, root: &Path, base: &'a Path) -> Result<Place<'a>, OutOfMemory>
+    ensures { IfOk result (λ place. place ≡ top_of root.now base.now) }
+{
+    let names = base.len();
+    let bytes = count_bytes(base.names());
+    let from = root.copy(alloc)?;
+    let rel = Path::root(alloc);
+    Ok(Place {
+        from,
+        rel,
+        base,
+        names,
+        bytes,
+    })
+}
+
+// Whether the limits leave room for a name more in the target.
+fn has_room(dir: &Place<'_>, name: &Name) -> bool
+    ensures { result ≡ fits (dir.now.to ++ name.now ∷ []) }
+{
+    dir.names < MAX_NAMES && name.as_str().len() < MAX_BYTES - dir.bytes
+}
+
+// The refusal of a name for which the limits leave no room in the target.
+fn no_room<T: Drop>(alloc: Global, dir: &Place<'_>, name: &Name) -> Result<T, ListError>
+    ensures { GivesUnless ListError.Memory result (Err (ListError.TooLong dir.now.to name.now)) }
+{
+    let to = dir.base.join_within(alloc, &dir.rel)?;
+    too_long(alloc, &to, name)
 }
 
 // What has this name in a directory.
-fn enter(alloc: Global, dir: &Place, name: &Name) -> Result<Place, ListError>
-    requires { IsShorter dir.now }
-    ensures entered { GivesUnless ListError.Memory result (entered dir.now name.now) }
-    ensures shorter { IfOk result IsShorter }
+fn enter<'a>(alloc: Global, dir: &Place<'a>, name: &Name) -> Result<Place<'a>, ListError>
+    ensures { GivesUnless ListError.Memory result (entered dir.now name.now) }
 {
     let from = step(alloc, &dir.from, name)?;
-    let to = step(alloc, &dir.to, name)?;
-    let rel = longer(alloc, &dir.rel, name)?;
-    Ok(Place { from, rel, to })
+    if !has_room(dir, name) {
+        return no_room(alloc, dir, name);
+    }
+    let rel = dir.rel.child_within(alloc, name)?;
+    Ok(Place {
+        from,
+        rel,
+        base: dir.base,
+        names: dir.names + 1,
+        bytes: dir.bytes + name.as_str().len() + 1,
+    })
 }
 
 // The refusal of a store that denies what it showed.
@@ -151,15 +208,9 @@ fn names_of<S: Store>(alloc: Global, source: &mut S, path: &Path) -> Result<List
 }
 
 // Adds an item at the end.
-fn add_item(
-    alloc: Global,
-    items: &mut List<Item>,
-    rel: &Path,
-    dir: bool,
-    bytes: u64,
-) -> Result<(), ListError>
+fn add_item(items: &mut List<Item>, rel: Path, dir: bool, bytes: u64) -> Result<(), ListError>
     requires { length items.old ≤ 1048576 }
-    ensures ok { OnOk result (items.new ≡ items.old ++ (record { rel = rel.now; dir = dir; length = bytes }) ∷ []) }
+    ensures ok { OnOk result (items.new ≡ items.old ++ (record { rel = rel; dir = dir; length = bytes }) ∷ []) }
     ensures few { length items.new ≤ 1048576 }
     ensures stays { OnErr result (items.new ≡ items.old) }
     ensures full { IfErr result (λ e. IsFull e items.old) }
@@ -169,7 +220,6 @@ fn add_item(
     if items.len() >= MAX_ITEMS {
         return Err(ListError::TooMany);
     }
-    let rel = rel.copy(alloc)?;
     match items.push(Item {
         rel,
         dir,
@@ -180,38 +230,39 @@ fn add_item(
     }
 }
 
-// Adds the item of what stands at a place, and answers whether it is a directory.
-fn visit<S: Store>(
+// Adds the item of what stands at a place, and gives the place back where that is a directory.
+fn visit<'a, S: Store>(
     alloc: Global,
     source: &mut S,
-    place: &Place,
+    place: Place<'a>,
     items: &mut List<Item>,
-) -> Result<bool, ListError>
+) -> Result<Option<Place<'a>>, ListError>
     requires ascending { is_ascending (map rel_of items.old) ≡ true }
-    requires below { all_below (map rel_of items.old) place.now.rel ≡ true }
+    requires below { all_below (map rel_of items.old) place.rel ≡ true }
     requires few { length items.old ≤ 1048576 }
-    requires sources { fits place.now.from ≡ true }
-    requires places { fits place.now.to ≡ true }
+    requires sources { fits place.from ≡ true }
+    requires places { fits place.to ≡ true }
     ensures tree { S.tree source.new ≡ S.tree source.old }
     ensures rest { S.rest source.new ≡ S.rest source.old }
     ensures cause { HasCause (S.faults source.old) (S.faults source.new) result ListError.Fault }
     ensures calm { steady_at (S.steady source.new) (S.faults source.new) ≡ steady_at (S.steady source.old) (S.faults source.old) }
-    ensures kept { Keeps place.now items.old items.new }
-    ensures below { OnOk result ((x : List ℕ) → all_below (map rel_of items.new) (place.now.rel ++ x ∷ []) ≡ true) }
-    ensures added { IfOk result (λ dir. GainsItem (S.tree source.old) place.now dir items.old items.new) }
+    ensures kept { Keeps place.entry items.old items.new }
+    ensures below { OnOk result ((x : List ℕ) → all_below (map rel_of items.new) (place.entry.rel ++ x ∷ []) ≡ true) }
+    ensures visits { IfOk result (λ inner. Visits (S.tree source.old) place.entry inner items.old items.new) }
     ensures stays { OnErr result (items.new ≡ items.old) }
-    ensures stops { IfErr result (λ e. ChildStops e (S.tree source.old) place.now) }
+    ensures stops { IfErr result (λ e. ChildStops e (S.tree source.old) place.entry) }
     ensures full { IfErr result (λ e. IsFull e items.old) }
 {
     match source.kind(&place.from) {
         Err(_) => Err(ListError::Fault),
         Ok(Seen::Dir) => {
-            add_item(alloc, items, &place.rel, true, 0)?;
-            Ok(true)
+            let rel = place.rel.copy(alloc)?;
+            add_item(items, rel, true, 0)?;
+            Ok(Some(place))
         }
         Ok(Seen::File { length }) => {
-            add_item(alloc, items, &place.rel, false, length)?;
-            Ok(false)
+            add_item(items, place.rel, false, length)?;
+            Ok(None)
         }
         Ok(Seen::Missing) => changed(alloc, &place.from),
         Ok(Seen::NotDir) => changed(alloc, &place.from),
@@ -223,11 +274,10 @@ fn visit<S: Store>(
 fn walk_child<S: Store>(
     alloc: Global,
     source: &mut S,
-    dir: &Place,
+    dir: &Place<'_>,
     name: &Name,
     items: &mut List<Item>,
 ) -> Result<(), ListError>
-    requires shorter { IsShorter dir.now }
     requires ascending { is_ascending (map rel_of items.old) ≡ true }
     requires below { all_below (map rel_of items.old) (dir.now.rel ++ name.now ∷ []) ≡ true }
     requires few { length items.old ≤ 1048576 }
@@ -242,10 +292,9 @@ fn walk_child<S: Store>(
     ensures limit { IfErr result (λ e. ChildPasses e (S.tree source.old) dir.now name.now items.old items.new) }
 {
     let place = enter(alloc, dir, name)?;
-    if visit(alloc, source, &place, items)? {
-        walk_dir(alloc, source, &place, items)
-    } else {
-        Ok(())
+    match visit(alloc, source, place, items)? {
+        Some(inner) => walk_dir(alloc, source, &inner, items),
+        None => Ok(()),
     }
 }
 
@@ -254,10 +303,9 @@ fn walk_child<S: Store>(
 fn walk_dir<S: Store>(
     alloc: Global,
     source: &mut S,
-    dir: &Place,
+    dir: &Place<'_>,
     items: &mut List<Item>,
 ) -> Result<(), ListError>
-    requires shorter { IsShorter dir.now }
     requires ascending { is_ascending (map rel_of items.old) ≡ true }
     requires below { (x : List ℕ) → all_below (map rel_of items.old) (dir.now.rel ++ x ∷ []) ≡ true }
     requires few { length items.old ≤ 1048576 }
@@ -304,10 +352,7 @@ pub fn list_tree<S: Store>(
     ensures too_long { IfErr result (λ e. IfTooLong e (λ parent name. IfSome (S.tree source.old) (λ s. IsTree s → IsTooLong (listed s root.now) root.now base.now parent name))) }
     ensures too_many { IsErrOf result ListError.TooMany → IfSome (S.tree source.old) (λ s. IsTree s → IsTooMany (listed s root.now) root.now base.now) }
 {
-    let from = root.copy(alloc)?;
-    let to = base.copy(alloc)?;
-    let rel = Path::root(alloc);
-    let top = Place { from, rel, to };
+    let top = begin(alloc, root, base)?;
     let mut items = List::new(alloc);
     walk_dir(alloc, source, &top, &mut items)?;
     Ok(items)

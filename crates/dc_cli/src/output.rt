@@ -6,8 +6,10 @@ ghost use Rattle.std.specs.Option.{option_map};
 ghost use Rattle.dc_path.specs.Paths.{text_of};
 ghost use Rattle.dc_fs.specs.Causes.{HasCause, Rose};
 ghost use Rattle.dc_fs.specs.Temporaries.{WriteStops};
+ghost use Rattle.dc_cli.specs.Effects.{none_counted};
 ghost use Rattle.dc_cli.specs.Numbers.{decimal_of};
 ghost use Rattle.dc_cli.specs.Output.{line, lines, counter_lines, many_text, option_text, outcome_text, phase_text, status_of, target_text};
+ghost use Rattle.dc_cli.specs.declared.outcome.Outcome.{Outcome};
 ghost use Rattle.dc_cli.specs.declared.outcome.Outcome.TheVariants.{TargetFault, TooLong};
 ghost use Rattle.dc_cli.specs.Pieces.{piece_text, pieces_text};
 
@@ -287,6 +289,25 @@ pub fn print<O: Sink>(answer: &Answer, out: &mut O) -> bool
     ensures still { result ≡ true → O.faults out.new ≡ O.faults out.old }
 {
     write_lines(out, &answer.outcome, &answer.counts).is_ok()
+}
+
+/// Prints that memory ran out before a run could begin, and gives the answer of that run. It takes no memory.
+pub fn print_no_memory<O: Sink>(out: &mut O) -> Answer
+    ensures outcome { result.outcome ≡ Outcome.Memory }
+    ensures counts { result.counts ≡ none_counted }
+    ensures moves { result.moves ≡ 0 }
+    ensures printed { result.printed ≡ true → O.bytes out.new ≡ option_map (λ old. old ++ lines Outcome.Memory none_counted) (O.bytes out.old) }
+    ensures later { O.faults out.old ≤ O.faults out.new }
+    ensures cause { result.printed ≡ false → Rose (O.faults out.old) (O.faults out.new) }
+{
+    let mut answer = Answer {
+        outcome: Outcome::Memory,
+        counts: Counts::NONE,
+        moves: 0,
+        printed: false,
+    };
+    answer.printed = print(&answer, out);
+    answer
 }
 
 /// The exit status of a run: 0 where it committed and printed all its lines.

@@ -17,8 +17,10 @@ pub enum Job {
     Drill { seed: u64, count: u32 },
     /// A drill whose words are not two numbers.
     BadDrill,
-    /// What is not built.
-    Unbuilt,
+    /// A copy between two folders.
+    Folders,
+    /// Fewer words than two folders.
+    TooFew,
 }
 
 // What the words after `drill` ask for.
@@ -47,6 +49,7 @@ pub fn read_job(words: &[String]) -> Job
         [first, rest @ ..] if first.as_str() == "drill" => read_drill(rest),
         [word] if word.as_str() == "--help" => Job::Help,
         [word] if word.as_str() == "--version" => Job::Version,
-        _ => Job::Unbuilt,
+        [_, _, ..] => Job::Folders,
+        _ => Job::TooFew,
     }
 }

@@ -1,4 +1,4 @@
-use Rattle.std.proofs.Common.{◌≡◌, ◌∙◌, inl, refl, List, map, filter, ap, sym, subst, IfSome}
+use Rattle.std.proofs.Common.{◌≡◌, ◌∙◌, inl, inr, refl, List, map, filter, ap, sym, subst, IfSome}
 use Rattle.std.specs.Option.{is_some}
 use Rattle.dc_fs.specs.Rest.{Rest}
 use Rattle.dc_cli.specs.Phases.{contents_of, counts_from, is_file_item}
@@ -72,6 +72,15 @@ returns-in_err-items-clause-ends g c =
     rw (p.1, p.2) (early_during (g.S.Store.tree c.args.source.now) (g.T.Store.tree c.args.target.now) (g.T.Store.tree c.survey.new.target) c.args.root.now c.args.place.now
     (g.T.Store.rest c.args.target.now).landed (g.T.Store.rest c.survey.new.target).landed phase_of.Check c.in_err-items.field-0.0 (inl refl)
     c.survey.ensures.target.tree (ap (λ (r : Rest). r.landed) c.survey.ensures.target.rest) c.in_err-items.ensures.due.phase)
+
+pub returns-in-Err-clause-ends : goal.returns-in-Err-clause-ends
+returns-in-Err-clause-ends g c =
+    swept_during (g.S.Store.tree c.args.source.now) (g.T.Store.tree c.args.target.now) c.args.root.now c.args.place.now (g.T.Store.tree c.settle.new.target) (g.T.Store.tree c.give_up.new.target)
+    (g.T.Store.rest c.args.target.now).landed (g.T.Store.rest c.settle.new.target).landed (g.T.Store.rest c.give_up.new.target).landed c.in-Err.outcome c.give_up.result
+    c.give_up.ensures.tree c.give_up.ensures.landed c.give_up.ensures.outcome
+    (early_during (g.S.Store.tree c.args.source.now) (g.T.Store.tree c.args.target.now) (g.T.Store.tree c.settle.new.target) c.args.root.now c.args.place.now
+    (g.T.Store.rest c.args.target.now).landed (g.T.Store.rest c.settle.new.target).landed phase_of.Copy c.in-Err.outcome (inr refl)
+    (c.settle.ensures.target_tree ∙ c.survey.ensures.target.tree) (c.settle.ensures.landed ∙ ap (λ (r : Rest). r.landed) c.survey.ensures.target.rest) c.in-Err.ensures.phase)
 
 pub returns-clause-ends : goal.returns-clause-ends
 returns-clause-ends g c =

@@ -10,14 +10,14 @@ pub returns-in_err-walk_dir-clause-too_long : goal.returns-in_err-walk_dir-claus
 returns-in_err-walk_dir-clause-too_long g c =
     let p = err_from_is_err_and c.from_residual-in_err-walk_dir.result c.from_residual-in_err-walk_dir.ensures.1 in
     let told = g.S.Store.tree c.args.source.now in
-    rw (p.1, p.2) (tree_too_long _ told _ c.args.root.now c.args.base.now c.walk_dir.new.items c.in_ok-from.ensures c.root-rel.ensures c.in_ok-to.ensures
-    (subst (λ (old : List Item). Keeps (record { from = c.in_ok-from.from; rel = c.root-rel.result; to = c.in_ok-to.to }) old c.walk_dir.new.items) c.new-items.ensures c.walk_dir.ensures.kept)
-    (subst (λ (old : List Item). DirPasses c.in_err-walk_dir.field-0.0 told (record { from = c.in_ok-from.from; rel = c.root-rel.result; to = c.in_ok-to.to }) old c.walk_dir.new.items) c.new-items.ensures c.in_err-walk_dir.ensures.limit))
+    rw (p.1, p.2) (tree_too_long _ told c.in_ok-top.top c.args.root.now c.args.base.now c.walk_dir.new.items c.in_ok-top.ensures
+    (subst (λ (old : List Item). Keeps c.in_ok-top.top old c.walk_dir.new.items) c.new-items.ensures c.walk_dir.ensures.kept)
+    (subst (λ (old : List Item). DirPasses c.in_err-walk_dir.field-0.0 told c.in_ok-top.top old c.walk_dir.new.items) c.new-items.ensures c.in_err-walk_dir.ensures.limit))
 
 pub returns-in_err-walk_dir-clause-too_many : goal.returns-in_err-walk_dir-clause-too_many
 returns-in_err-walk_dir-clause-too_many g c =
     let p = err_from_is_err_and c.from_residual-in_err-walk_dir.result c.from_residual-in_err-walk_dir.ensures.1 in
     let told = g.S.Store.tree c.args.source.now in
-    rw (p.1, p.2) (λ full. let is : c.in_err-walk_dir.field-0.0 ≡ list_error.TooMany = cc in tree_too_many _ told _ c.args.root.now c.args.base.now c.walk_dir.new.items is c.in_ok-from.ensures c.root-rel.ensures c.in_ok-to.ensures
-    (subst (λ (old : List Item). Keeps (record { from = c.in_ok-from.from; rel = c.root-rel.result; to = c.in_ok-to.to }) old c.walk_dir.new.items) c.new-items.ensures c.walk_dir.ensures.kept)
-    (subst (λ (old : List Item). DirPasses c.in_err-walk_dir.field-0.0 told (record { from = c.in_ok-from.from; rel = c.root-rel.result; to = c.in_ok-to.to }) old c.walk_dir.new.items) c.new-items.ensures c.in_err-walk_dir.ensures.limit))
+    rw (p.1, p.2) (λ full. let is : c.in_err-walk_dir.field-0.0 ≡ list_error.TooMany = cc in tree_too_many _ told c.in_ok-top.top c.args.root.now c.args.base.now c.walk_dir.new.items is c.in_ok-top.ensures
+    (subst (λ (old : List Item). Keeps c.in_ok-top.top old c.walk_dir.new.items) c.new-items.ensures c.walk_dir.ensures.kept)
+    (subst (λ (old : List Item). DirPasses c.in_err-walk_dir.field-0.0 told c.in_ok-top.top old c.walk_dir.new.items) c.new-items.ensures c.in_err-walk_dir.ensures.limit))
