@@ -1,7 +1,7 @@
 //! Desks of folders: each temporary is a file in the folder of temporaries.
 #![tactic(auto)]
 
-ghost use Rattle.std.specs.Prelude.{◌≡◌, ◌+◌, ◌≤◌, ◌<◌, Some, None, false, length, IsSome, IfOk, IfErr, OnOk};
+ghost use Rattle.std.specs.Prelude.{◌≡◌, ◌+◌, ◌≤◌, ◌<◌, Some, None, false, length, IsSome, IfOk, IfErr, OnOk, OnErr};
 ghost use Rattle.std.specs.Option.{option_map, is_some};
 ghost use Rattle.dc_local.specs.AtWork.{bytes_at_work};
 
@@ -70,11 +70,16 @@ fn put_name(scratch: &str, desk: u64, number: u64, buffer: &mut String) -> Resul
     }
 }
 
+/// The most bytes of a temporary that are gathered before the machine is given them.
+const GATHERED: usize = 65536;
+
 /// A temporary at work.
 #[derive(Drop)]
 pub struct Begun {
     file: File,
     number: u64,
+    // A write has failed, so the file lacks bytes that were added.
+    torn: bool,
     pub bytes: u64,
 }
 
@@ -89,6 +94,9 @@ pub struct LocalDesk<'a, R: Files<File = File>> {
     // The text of the place of the last temporary.
     place: String,
     current: Option<Begun>,
+    // The last bytes that were added to the temporary at work, which its file does not have yet. There is room for
+    // `GATHERED` bytes.
+    gathered: Vec<u8>,
     made: u64,
     faults: u64,
 }
@@ -111,6 +119,7 @@ impl<'a, R: Files<File = File>> LocalDesk<'a, R> {
             desk,
             place: String::new(alloc),
             current: None,
+            gathered: Vec::with_capacity(alloc, GATHERED)?,
             made: 0,
             faults: 0,
         })
@@ -167,38 +176,88 @@ fn begin<R: Files<File = File>>(
         Ok(file) => Ok(Begun {
             file,
             number,
+            torn: false,
             bytes: 0,
         }),
         Err(_) => Err(DeskError::Fault),
     }
 }
 
-// Adds bytes to the temporary at work, and answers how many of them: all, unless the machine fails.
-fn add(current: &mut Option<Begun>, bytes: &[u8]) -> usize
-    ensures front { result ≤ length bytes.now }
-    ensures longer { bytes_at_work current.new ≡ bytes_at_work current.old + result }
+// Writes bytes at the end of the file of a temporary. After a failure it is torn, and nothing more is written to it.
+fn write_out(begun: &mut Begun, bytes: &[u8]) -> Result<(), DeskError>
+    ensures { begun.new.bytes ≡ begun.old.bytes }
+{
+    if begun.torn {
+        return Err(DeskError::Fault);
+    }
+    if write_front(&mut begun.file, bytes) < bytes.len() {
+        begun.torn = true;
+        return Err(DeskError::Fault);
+    }
+    Ok(())
+}
+
+// Writes what was gathered to the file of a temporary.
+fn flush(begun: &mut Begun, gathered: &mut Vec<u8>) -> Result<(), DeskError>
+    ensures { begun.new.bytes ≡ begun.old.bytes }
+{
+    write_out(begun, gathered.as_slice())?;
+    gathered.clear();
+    Ok(())
+}
+
+// Adds bytes to a temporary. They are gathered, unless they are many. After a refusal none are added.
+fn add(begun: &mut Begun, gathered: &mut Vec<u8>, bytes: &[u8]) -> Result<(), DeskError>
+    ensures ok { OnOk result (begun.new.bytes ≡ begun.old.bytes + length bytes.now) }
+    ensures err { OnErr result (begun.new.bytes ≡ begun.old.bytes) }
+{
+    let Some(whole) = begun.bytes.checked_add(bytes.len() as u64) else {
+        return Err(DeskError::Fault);
+    };
+    if gathered.len().saturating_add(bytes.len()) > GATHERED {
+        flush(begun, gathered)?;
+    }
+    if bytes.len() >= GATHERED {
+        write_out(begun, bytes)?;
+    } else if gathered.extend_from_slice(bytes).is_err() {
+        return Err(DeskError::Memory);
+    }
+    begun.bytes = whole;
+    Ok(())
+}
+
+// Adds bytes to the temporary at work, all of them or none.
+fn add_at_work(
+    current: &mut Option<Begun>,
+    gathered: &mut Vec<u8>,
+    bytes: &[u8],
+) -> Result<(), DeskError>
+    ensures longer { OnOk result (bytes_at_work current.new ≡ bytes_at_work current.old + length bytes.now) }
+    ensures err { OnErr result (bytes_at_work current.new ≡ bytes_at_work current.old) }
     ensures same { is_some current.new ≡ is_some current.old }
 {
     match current {
-        Some(begun) => {
-            if begun.bytes.checked_add(bytes.len() as u64).is_none() {
-                return 0;
-            }
-            let count = write_front(&mut begun.file, bytes);
-            begun.bytes += count as u64;
-            count
-        }
-        None => 0,
+        Some(begun) => add(begun, gathered, bytes),
+        None => Err(DeskError::Fault),
     }
 }
 
 // The digest of the temporary at work, read back from the machine.
-fn digest_at_work(current: &Option<Begun>) -> Result<[u8; 16], DeskError> {
+fn digest_at_work(
+    current: &mut Option<Begun>,
+    gathered: &mut Vec<u8>,
+) -> Result<[u8; 16], DeskError>
+    ensures size { bytes_at_work current.new ≡ bytes_at_work current.old }
+    ensures same { is_some current.new ≡ is_some current.old }
+{
     match current {
-        Some(begun) => match digest_of(&begun.file, begun.bytes) {
-            Ok(digest) => Ok(digest),
-            Err(error) => Err(desk_error(error)),
-        },
+        Some(begun) => {
+            flush(begun, gathered)?;
+            match digest_of(&begun.file, begun.bytes) {
+                Ok(digest) => Ok(digest),
+                Err(error) => Err(desk_error(error)),
+            }
+        }
         None => Err(DeskError::Fault),
     }
 }
@@ -220,6 +279,7 @@ impl<'a, R: Files<File = File> + Sync> Desk for LocalDesk<'a, R> {
 
     fn create(&mut self, _alloc: Global) -> Result<(), DeskError> {
         self.current = None;
+        self.gathered.clear();
         match begin(
             self.rt,
             self.scratch.as_str(),
@@ -240,15 +300,17 @@ impl<'a, R: Files<File = File> + Sync> Desk for LocalDesk<'a, R> {
     }
 
     fn append(&mut self, _alloc: Global, bytes: &[u8]) -> Result<(), DeskError> {
-        if add(&mut self.current, bytes) < bytes.len() {
-            self.faults = one_more(self.faults);
-            return Err(DeskError::Fault);
+        match add_at_work(&mut self.current, &mut self.gathered, bytes) {
+            Ok(()) => Ok(()),
+            Err(error) => {
+                self.faults = after_desk(self.faults, error);
+                Err(error)
+            }
         }
-        Ok(())
     }
 
     fn digest(&mut self, _alloc: Global) -> Result<[u8; 16], DeskError> {
-        match digest_at_work(&self.current) {
+        match digest_at_work(&mut self.current, &mut self.gathered) {
             Ok(digest) => Ok(digest),
             Err(error) => {
                 self.faults = after_desk(self.faults, error);
@@ -258,13 +320,19 @@ impl<'a, R: Files<File = File> + Sync> Desk for LocalDesk<'a, R> {
     }
 
     fn seal(&mut self, _alloc: Global) -> Result<LocalTemp, DeskError> {
-        match self.current.take() {
-            Some(begun) => Ok(LocalTemp {
+        let Some(mut begun) = self.current.take() else {
+            unreachable!();
+        };
+        match flush(&mut begun, &mut self.gathered) {
+            Ok(()) => Ok(LocalTemp {
                 desk: self.desk,
                 number: begun.number,
                 bytes: begun.bytes,
             }),
-            None => unreachable!(),
+            Err(error) => {
+                self.faults = after_desk(self.faults, error);
+                Err(error)
+            }
         }
     }
 }

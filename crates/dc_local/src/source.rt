@@ -1,7 +1,8 @@
 //! Folders that are copied from.
 #![tactic(auto)]
 
-ghost use Rattle.std.specs.Prelude.{◌≡◌, IfOk};
+ghost use Rattle.std.specs.Prelude.{◌≡◌, None, false, IfOk};
+ghost use Rattle.dc_fs.specs.Rest.{nothing_kept};
 
 use crate::LocalError;
 use crate::catalogue::Catalogue;
@@ -36,11 +37,13 @@ impl<'a, R: Files<File = File>> LocalSource<'a, R> {
     /// - `BadCatalogue`, with the number of the first line of the catalogue that is none, counted from 1;
     /// - `Fault`, where the machine fails, or what has the catalogue's name is no file;
     /// - `Memory`, which may come in the place of any answer.
-    pub fn open_at(
-        rt: &'a R,
-        alloc: Global,
-        folder: &str,
-    ) -> Result<LocalSource<'a, R>, LocalError> {
+    pub fn open_at(rt: &'a R, alloc: Global, folder: &str) -> Result<LocalSource<'a, R>, LocalError>
+        ensures untold { IfOk result (λ source. ⟦<LocalSource<'a, R> as Store>⟧.tree source ≡ None) }
+        ensures unfailed { IfOk result (λ source. ⟦<LocalSource<'a, R> as Store>⟧.faults source ≡ 0) }
+        ensures unlooked { IfOk result (λ source. ⟦<LocalSource<'a, R> as Store>⟧.looks source ≡ 0) }
+        ensures empty { IfOk result (λ source. ⟦<LocalSource<'a, R> as Store>⟧.rest source ≡ nothing_kept) }
+        ensures unsteady { IfOk result (λ source. ⟦<LocalSource<'a, R> as Store>⟧.steady source ≡ false) }
+    {
         let folder = match Folder::open_at(rt, alloc, folder) {
             Ok(folder) => folder,
             Err(error) => return Err(unopened(error)),

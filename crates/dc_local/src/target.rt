@@ -1,14 +1,14 @@
 //! Folders that are copied to.
 #![tactic(auto)]
 
-ghost use Rattle.std.specs.Prelude.{◌≡◌, ◌≤◌, ◌++◌, ◌∷◌, [], true, length, map, IfErr, IfSome, OnOk, OnErr, IsErrOf};
+ghost use Rattle.std.specs.Prelude.{◌≡◌, ◌≤◌, ◌++◌, ◌∷◌, [], None, true, false, length, map, IfOk, IfErr, IfSome, OnOk, OnErr, IsErrOf};
 ghost use Rattle.std.specs.Option.{option_map, is_some};
 ghost use Rattle.std.specs.List.{sum_by};
 ghost use Rattle.dc_attrs.specs.Trees.{updated};
 ghost use Rattle.dc_fs.specs.Answers.{WriteAnswers, refused_land};
 ghost use Rattle.dc_fs.specs.Temporaries.{all_told, landed_by};
 ghost use Rattle.dc_fs.specs.Causes.{HasCause, RisesByOne, steady_at};
-ghost use Rattle.dc_fs.specs.Rest.{Lands};
+ghost use Rattle.dc_fs.specs.Rest.{Lands, nothing_kept};
 
 use crate::LocalError;
 use crate::counts::{Counts, one_more};
@@ -43,11 +43,13 @@ impl<'a, R: Files<File = File>> LocalTarget<'a, R> {
     /// - `BadCatalogue`, with the number of the first line of the catalogue that is none, counted from 1;
     /// - `Fault`, where the machine fails, or what has the catalogue's name is no file;
     /// - `Memory`, which may come in the place of any answer.
-    pub fn open_at(
-        rt: &'a R,
-        alloc: Global,
-        folder: &str,
-    ) -> Result<LocalTarget<'a, R>, LocalError> {
+    pub fn open_at(rt: &'a R, alloc: Global, folder: &str) -> Result<LocalTarget<'a, R>, LocalError>
+        ensures untold { IfOk result (λ target. ⟦<LocalTarget<'a, R> as Store>⟧.tree target ≡ None) }
+        ensures unfailed { IfOk result (λ target. ⟦<LocalTarget<'a, R> as Store>⟧.faults target ≡ 0) }
+        ensures unlooked { IfOk result (λ target. ⟦<LocalTarget<'a, R> as Store>⟧.looks target ≡ 0) }
+        ensures empty { IfOk result (λ target. ⟦<LocalTarget<'a, R> as Store>⟧.rest target ≡ nothing_kept) }
+        ensures unsteady { IfOk result (λ target. ⟦<LocalTarget<'a, R> as Store>⟧.steady target ≡ false) }
+    {
         Ok(LocalTarget {
             written: Written::open_at(rt, alloc, folder)?,
             landed: Vec::new(alloc),
