@@ -3,7 +3,7 @@ use Rattle.std.proofs.Common.{◌≡◌, ◌≢◌, ℕ, ◌+◌, ◌-◌, ◌*�
 use Rattle.std.proofs.lemmas.Bool.{cases_lt}
 use Rattle.std.proofs.lemmas.Grind.{div_ceil_times}
 use Rattle.std.specs.Int.{div_ceil}
-use Rattle.dc_attempt.specs.Steps.{NoStopBefore}
+use Rattle.dc_attempt.specs.Steps.{NoStopBefore, reads_before}
 
 times_le : (a b n : ℕ) → a ≤ b → a * n ≤ b * n
 times_le a b n h = grind arith
@@ -64,6 +64,11 @@ short_more step count size done some d h =
 pub later_more : (stop : Option ℕ) (step : ℕ) → (stop ≢ Some step) → NoStopBefore stop step → NoStopBefore stop (step + 1)
 later_more None step n l = tt
 later_more (Some s) step n l = ⊎_elim (λ (h : step < s). omega arith) (λ (h : s ≤ step). absurd (n (ap (λ (k : ℕ). Some k) (omega arith)))) (cases_lt step s)
+
+-- as many looks as steps before this one are no more than the most reads
+pub looks_few : (stop : Option ℕ) (all step before now : ℕ) → now + 1 ≤ before + step → step ≤ all + 1 → NoStopBefore stop step → now ≤ before + reads_before stop all
+looks_few None all step before now l s n = omega arith
+looks_few (Some stop) all step before now l s n = omega arith
 
 pub buffer_length : (want : ℕ) (into buffer : List ℕ) → length into ≡ want → want ≤ length buffer → length (into ++ drop want buffer) ≡ length buffer
 buffer_length want into buffer e h = let a = length-append into (drop want buffer) in let b = length-drop {A = ℕ} want buffer in omega arith

@@ -1,5 +1,5 @@
 -- What an attempt is asked for, and its steps.
-use Rattle.std.specs.Prelude.{◌≡◌, ℕ, ◌+◌, ◌-◌, ◌*◌, ◌<◌, ◌≤◌, min, Bool, List, length, Option, Some, IfSome}
+use Rattle.std.specs.Prelude.{◌≡◌, ℕ, ◌+◌, ◌-◌, ◌*◌, ◌<◌, ◌≤◌, min, Bool, List, length, Option, Some, None, IfSome}
 use Rattle.std.specs.Int.{div_ceil}
 use Rattle.dc_path.specs.Paths.{Names}
 use Rattle.dc_attrs.specs.Trees.{Tree}
@@ -31,6 +31,15 @@ lies asked = lies_in asked.tree asked.path asked.from asked.count
 -- how many times a bufferful is read: steps 1 to this one
 abbrev pub reads : Asked → ℕ
 reads asked = div_ceil asked.count asked.room
+
+-- the most reads up to a stop, which is not taken, if there is one
+abbrev pub reads_before : Option ℕ → ℕ → ℕ
+reads_before None all = all
+reads_before (Some stop) all = min (stop - 1) all
+
+-- the most reads of an attempt: each bufferful once, and none from the stop on
+abbrev pub most_reads : Asked → ℕ
+most_reads asked = reads_before asked.stop (reads asked)
 
 -- the step that compares the digests, the one that seals, and the last, which hands the temporary out
 abbrev pub compare_step : Asked → ℕ

@@ -5,7 +5,7 @@ ghost use Rattle.std.specs.Prelude.{◌≡◌, ◌+◌, ◌<◌, ◌≤◌, ◌^
 ghost use Rattle.dc_fs.specs.Causes.{steady_at};
 ghost use Rattle.dc_attempt.specs.Attempts.{Answers, is_fault};
 ghost use Rattle.dc_attempt.specs.Benches.{bench};
-ghost use Rattle.dc_attempt.specs.Steps.{asked_for};
+ghost use Rattle.dc_attempt.specs.Steps.{asked_for, most_reads};
 
 use crate::Attempted;
 use crate::attempted::ended;
@@ -33,6 +33,7 @@ pub trait Attempts: Copies {
         ensures tree { S.tree reader.new ≡ S.tree reader.old }
         ensures rest { S.rest reader.new ≡ S.rest reader.old }
         ensures later { S.faults reader.old ≤ S.faults reader.new }
+        ensures looks { S.looks reader.new ≤ S.looks reader.old + most_reads (asked_for (S.tree reader.old) path.now from count (length buffer.old) stop) }
         ensures calm { steady_at (S.steady reader.new) (S.faults reader.new) ≡ steady_at (S.steady reader.old) (S.faults reader.old) }
         ensures tells { Self.tells self.new ≡ Self.tells self.old }
         ensures made { Self.made self.old ≤ Self.made self.new }
@@ -69,6 +70,7 @@ pub fn attempt<S: Store, D: Desk>(
     ensures tree { S.tree reader.new ≡ S.tree reader.old }
     ensures rest { S.rest reader.new ≡ S.rest reader.old }
     ensures later { S.faults reader.old ≤ S.faults reader.new }
+    ensures looks { S.looks reader.new ≤ S.looks reader.old + most_reads (asked_for (S.tree reader.old) path.now from count (length buffer.old) stop) }
     ensures calm { steady_at (S.steady reader.new) (S.faults reader.new) ≡ steady_at (S.steady reader.old) (S.faults reader.old) }
     ensures tells { D.tells desk.new ≡ D.tells desk.old }
     ensures made { D.made desk.old ≤ D.made desk.new }

@@ -6,7 +6,7 @@ ghost use Rattle.dc_fs.specs.Causes.{steady_at};
 ghost use Rattle.dc_attempt.specs.Attempts.{IsStill, Answers, attempted_of};
 ghost use Rattle.dc_attempt.specs.Benches.{bench};
 ghost use Rattle.dc_attempt.specs.Parts.{IsHashed, PartStops, IsCopied, RangeStops};
-ghost use Rattle.dc_attempt.specs.Steps.{asked_for, reads, NoStopBefore};
+ghost use Rattle.dc_attempt.specs.Steps.{asked_for, reads, most_reads, NoStopBefore};
 
 use crate::stopping::{Stopped, is_stop};
 use dc_fs::{Desk, DeskError, ReadError, Store};
@@ -30,6 +30,7 @@ pub trait Copies: Desk {
         ensures tree { S.tree reader.new ≡ S.tree reader.old }
         ensures rest { S.rest reader.new ≡ S.rest reader.old }
         ensures later { S.faults reader.old ≤ S.faults reader.new }
+        ensures looks { S.looks reader.new ≤ S.looks reader.old + 1 }
         ensures calm { steady_at (S.steady reader.new) (S.faults reader.new) ≡ steady_at (S.steady reader.old) (S.faults reader.old) }
         ensures tells { Self.tells self.new ≡ Self.tells self.old }
         ensures made { Self.made self.new ≡ Self.made self.old }
@@ -80,6 +81,7 @@ pub trait Copies: Desk {
         ensures tree { S.tree reader.new ≡ S.tree reader.old }
         ensures rest { S.rest reader.new ≡ S.rest reader.old }
         ensures later { S.faults reader.old ≤ S.faults reader.new }
+        ensures looks { S.looks reader.new ≤ S.looks reader.old + most_reads (asked_for (S.tree reader.old) path.now from count (length buffer.old) stop) }
         ensures calm { steady_at (S.steady reader.new) (S.faults reader.new) ≡ steady_at (S.steady reader.old) (S.faults reader.old) }
         ensures tells { Self.tells self.new ≡ Self.tells self.old }
         ensures made { Self.made self.new ≡ Self.made self.old }
@@ -130,6 +132,7 @@ pub trait Copies: Desk {
         ensures tree { S.tree reader.new ≡ S.tree reader.old }
         ensures rest { S.rest reader.new ≡ S.rest reader.old }
         ensures later { S.faults reader.old ≤ S.faults reader.new }
+        ensures looks { S.looks reader.new ≤ S.looks reader.old + most_reads (asked_for (S.tree reader.old) path.now from count (length buffer.old) stop) }
         ensures calm { steady_at (S.steady reader.new) (S.faults reader.new) ≡ steady_at (S.steady reader.old) (S.faults reader.old) }
         ensures tells { Self.tells self.new ≡ Self.tells self.old }
         ensures made { Self.made self.old ≤ Self.made self.new }

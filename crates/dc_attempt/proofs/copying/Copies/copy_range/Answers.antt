@@ -1,10 +1,11 @@
-use Rattle.std.proofs.Common.{rules, arith, subst, ◌∙◌, length, take, ◌≡◌, ◌-◌, ℕ, min, length-take}
+use Rattle.std.proofs.Common.{rules, arith, subst, ◌∙◌, length, take, ◌≡◌, ◌+◌, ◌-◌, ℕ, min, length-take}
+use Rattle.std.specs.Int.{div_ceil}
 use Rattle.std.proofs.lemmas.Result.{err_from_is_err_and}
 use Rattle.dc_attempt.specs.Benches.{bench}
 use Rattle.dc_attempt.specs.Parts.{IsCopied}
 use Rattle.dc_attempt.specs.Steps.{asked_for, IsFilled}
 use Rattle.dc_attempt.proofs.FillLemmas.{copied_more, part_stops}
-use Rattle.dc_attempt.proofs.StepLemmas.{step_reads, done_more, short_more, later_more, buffer_length}
+use Rattle.dc_attempt.proofs.StepLemmas.{looks_few, step_reads, done_more, short_more, later_more, buffer_length, steps_all}
 use Rattle.dc_attempt.proofs.copying.Copies.copy_range.Goals as goal
 
 pub returns-then-is_stop-clause-stopped : goal.returns-then-is_stop-clause-stopped
@@ -34,6 +35,26 @@ returns-in_err-copy_part-clause-stopped g c =
     c.requires.room i.begun i.done c.reads-test.true w (later_more c.args.stop c.reads.step (search rules) i.unstopped) i.copied.filled i.still i.desk_still
     (rw (took, i.tree) at c.in_err-copy_part.ensures.stopped))
 
+pub returns-then-is_stop-clause-looks : goal.returns-then-is_stop-clause-looks
+returns-then-is_stop-clause-looks g c =
+    let i = c.reads.invariant in
+    let s = step_reads c.reads.step c.args.count (length c.args.buffer.now) c.reads.done i.begun i.done c.reads-test.true c.requires.room in
+    looks_few c.args.stop (div_ceil c.args.count (length c.args.buffer.now)) c.reads.step (g.S.Store.looks c.args.reader.now) (g.S.Store.looks c.reads.reader) i.looks (omega arith) i.unstopped
+
+pub returns-in_err-copy_part-clause-looks : goal.returns-in_err-copy_part-clause-looks
+returns-in_err-copy_part-clause-looks g c =
+    let i = c.reads.invariant in
+    let s = step_reads c.reads.step c.args.count (length c.args.buffer.now) c.reads.done i.begun i.done c.reads-test.true c.requires.room in
+    let f = i.looks in
+    let p = c.in_err-copy_part.ensures.looks in
+    looks_few c.args.stop (div_ceil c.args.count (length c.args.buffer.now)) (c.reads.step + 1) (g.S.Store.looks c.args.reader.now) (g.S.Store.looks c.copy_part.new.reader) (omega arith) (omega arith) (later_more c.args.stop c.reads.step (search rules) i.unstopped)
+
+pub returns-clause-looks : goal.returns-clause-looks
+returns-clause-looks g c =
+    let i = c.reads.invariant in
+    let s = c.requires.room in
+    looks_few c.args.stop (div_ceil c.args.count (length c.args.buffer.now)) c.reads.step (g.S.Store.looks c.args.reader.now) (g.S.Store.looks c.reads.reader) i.looks (let e = steps_all c.reads.step c.args.count (length c.args.buffer.now) c.reads.done i.begun i.done i.short (omega arith) s in omega arith) i.unstopped
+
 pub reads-preserved : goal.reads-preserved
 reads-preserved g c =
     let i = c.reads.invariant in
@@ -52,6 +73,7 @@ reads-preserved g c =
       room = buffer_length want c.copy_part.new.into c.reads.buffer put (omega arith) ∙ i.room;
       tree = part.tree ∙ i.tree;
       rest = part.rest ∙ i.rest;
+      looks = (let f = i.looks in let p = part.looks in omega arith);
       calm = part.calm ∙ i.calm;
       tells = part.tells ∙ i.tells;
       made = part.made ∙ i.made;

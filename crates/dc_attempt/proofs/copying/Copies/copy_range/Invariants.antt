@@ -15,6 +15,7 @@ invariant-reads g l = record {
   room : length l.buffer ≡ length l.fn.buffer;
   tree : g.S.Store.tree l.reader ≡ g.S.Store.tree l.fn.reader;
   rest : g.S.Store.rest l.reader ≡ g.S.Store.rest l.fn.reader;
+  looks : g.S.Store.looks l.reader + 1 ≤ g.S.Store.looks l.fn.reader + l.step;
   calm : steady_at (g.S.Store.steady l.reader) (g.S.Store.faults l.reader) ≡ steady_at (g.S.Store.steady l.fn.reader) (g.S.Store.faults l.fn.reader);
   tells : g.Self.Desk.tells l.self ≡ g.Self.Desk.tells l.fn.self;
   made : g.Self.Desk.made l.self ≡ g.Self.Desk.made l.fn.self;

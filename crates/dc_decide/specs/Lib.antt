@@ -1,0 +1,4 @@
+pub mod Plans
+pub mod Errors
+pub mod Deciding
+pub mod Looking

@@ -1,0 +1,13 @@
+pub mod Ascending
+pub mod NameLemmas
+pub mod RootLemmas
+pub mod NamesInOrder
+pub mod HoldLemmas
+pub mod GainLemmas
+pub mod WalkLemmas
+pub mod JoinLemmas
+pub mod TopLemmas
+pub mod RootWalks
+pub mod RootEntries
+pub mod OrderedEntries
+pub mod Distinct

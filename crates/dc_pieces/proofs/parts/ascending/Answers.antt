@@ -1,0 +1,6 @@
+-- What the sort says of the order.
+use Rattle.std.proofs.lemmas.List.Sorted.{IsNonDecreasingBy-from_sort}
+use Rattle.dc_pieces.proofs.parts.ascending.Goals as goal
+
+pub returns-clause-rises : goal.returns-clause-rises
+returns-clause-rises c = IsNonDecreasingBy-from_sort (λ x. x) _ c.sort_unstable.ensures.sorted
