@@ -16,55 +16,27 @@ use Rattle.dc_fs.specs.Answers.{write_error_of}
 use Rattle.dc_fs.specs.declared.errors.WriteError.TheVariants as write_error
 use Rattle.dc_fs.specs.Rest.{Rest}
 use Rattle.dc_fs.specs.declared.target.Landed.{Landed}
-use Rattle.dc_cli.specs.Phases.{Content, ways, folder_places, dir_places, place_of, all_made, all_landed, landed_as, is_dir_item}
+use Rattle.dc_cli.specs.Phases.{Content, folder_places, dir_places, place_of, all_made, all_landed, landed_as, is_dir_item}
 use Rattle.dc_cli.specs.Steps.{effect_of, is_told, Landing, LandsAll}
 use Rattle.dc_cli.specs.declared.listing.Item.{Item}
+use Rattle.dc_commit.specs.Making.{ways}
+use Rattle.dc_commit.proofs.MakeLemmas.{length-ways}
+use Rattle.dc_commit.proofs.StepLemmas.{told_then}
 
 get_is : (path : Names) (i : ℕ) (name : List ℕ) → slice_get path i ≡ Some name → get_or path i name ≡ name
 get_is [] i name e = refl
 get_is (x ∷ path) zero name e = cc
 get_is (x ∷ path) (suc i) name e = get_is path i name e
 
--- ---- one change after another, where the tree is told
-pub told_then : (f g h : Tree → Tree) (old now new : Option Tree) → now ≡ option_map f old → new ≡ option_map g now → ((t : Tree) → h t ≡ g (f t)) → new ≡ option_map h old
-told_then f g h None now new n w e = w ∙ ap (option_map g) n
-told_then f g h (Some t) now new n w e = w ∙ ap (option_map g) n ∙ sym (ap Some (e t))
-
 pub told_start : (old : Option Tree) → old ≡ option_map (λ (t : Tree). t) old
 told_start None = refl
 told_start (Some t) = refl
-
--- ---- a directory where something stands already
-never_exists : (s : Seen) → option_map write_error_of (refused_in s) ≡ Some write_error.Exists → ⊥
-never_exists seen_as.Dir e = cc
-never_exists (seen_as.File l) e = cc
-never_exists seen_as.Missing e = cc
-never_exists seen_as.NotDir e = cc
-
-stands_at : (o : Option Node) (s : Seen) → option_map write_error_of (refused_new o (refused_in s)) ≡ Some write_error.Exists → (n : Node) × (o ≡ Some n)
-stands_at (Some n) s e = (n, refl)
-stands_at None s e = absurd (never_exists s e)
-
-same_node : (b : Bool) (o : Option Node) (n : Node) → (b ≡ true → o ≡ Some n) → cond b (made o) o ≡ o
-same_node true o n h = ap made (h refl) ∙ sym (h refl)
-same_node false o n h = refl
-
-stands_made : (t : Tree) (p : Names) (n : Node) → t p ≡ Some n → t ≡ updated t p made
-stands_made t p n e = fun_ext (λ q. sym (same_node (same_path p q) (t q) n (λ b. ap t (sym (same_path-true p q b)) ∙ e)))
-
-pub exists_made : (old new : Option Tree) (p : Names) → new ≡ old → IfSome old (λ t. option_map write_error_of (refused_dir t p) ≡ Some write_error.Exists) → new ≡ option_map (λ t. updated t p made) old
-exists_made None new p e h = e
-exists_made (Some t) new p e h = let n = stands_at (t p) (seen t (front_of p)) h in e ∙ ap Some (stands_made t p n.0 n.1)
 
 -- ---- the way to a path
 get_or-map : (x : List ℕ) (ps : List Names) (i : ℕ) → i < length ps → get_or (map (λ (way : Names). x ∷ way) ps) i [] ≡ x ∷ get_or ps i []
 get_or-map x [] i h = absurd (omega arith)
 get_or-map x (p ∷ ps) zero h = refl
 get_or-map x (p ∷ ps) (suc i) h = get_or-map x ps i (omega arith)
-
-pub length-ways : (p : Names) → length (ways p) ≡ length p
-length-ways [] = refl
-length-ways (x ∷ p) = omega (arith, length-map (ways p) (λ (way : Names). x ∷ way), length-ways p)
 
 pub ways-at : (p : Names) (i : ℕ) → i < length p → get_or (ways p) i [] ≡ take (suc i) p
 ways-at [] i h = absurd (omega arith)

@@ -22,13 +22,14 @@ use Rattle.dc_attrs.specs.declared.shown.Seen.TheVariants as seen_as
 use Rattle.dc_attrs.proofs.TreeLemmas.{nothing_below, seen_from-there}
 use Rattle.dc_cli.specs.Items.{AreItems, fits_under, item_of, rel_of}
 use Rattle.dc_cli.specs.Listed.{listed}
-use Rattle.dc_cli.specs.Makeable.{is_hindrance, CanMakeAt, CanMake, CanMakeAll, CanLandAll}
-use Rattle.dc_cli.specs.Phases.{ways, folder_places, dir_places, place_of, all_made, landed_as, is_dir_item, is_file_item, content_of, contents_of, file_bytes}
+use Rattle.dc_cli.specs.Makeable.{CanMakeAt, CanMake, CanMakeAll, CanLandAll}
+use Rattle.dc_cli.specs.Phases.{folder_places, dir_places, place_of, all_made, landed_as, is_dir_item, is_file_item, content_of, contents_of, file_bytes}
 use Rattle.dc_cli.specs.declared.listing.Item.{Item}
 use Rattle.dc_cli.proofs.CommitLemmas.{all_made-append}
 use Rattle.dc_cli.proofs.ResultLemmas.{made_at, has_path-append, way_at, folders_below}
 use Rattle.std.specs.Cmp.{first_so, second_so}
 use Rattle.std.proofs.lemmas.Bool.{and_from, or_right}
+use Rattle.dc_commit.specs.Making.{is_hindrance, ways}
 
 -- ---- a directory more in a tree
 abbrev NoFile : Option Node → Type 0

@@ -9,10 +9,12 @@ use Rattle.dc_path.specs.Paths.{Names, fits}
 use Rattle.dc_attrs.specs.Trees.{Tree, updated, made}
 use Rattle.dc_fs.specs.Rest.{Rest}
 use Rattle.dc_cli.specs.Makeable.{CanMakeAt, CanMake, CanMakeAll, CanLandAt, CanLandAll}
-use Rattle.dc_cli.specs.Phases.{Content, ways, folder_places, place_of, all_made, all_landed, landed_as, is_dir_item}
+use Rattle.dc_cli.specs.Phases.{Content, folder_places, place_of, all_made, all_landed, landed_as, is_dir_item}
 use Rattle.dc_cli.specs.Steps.{is_told, LandsAll}
 use Rattle.dc_cli.specs.declared.listing.Item.{Item}
-use Rattle.dc_cli.proofs.CommitLemmas.{way_more, length-ways, ways-at, folders_more}
+use Rattle.dc_cli.proofs.CommitLemmas.{way_more, ways-at, folders_more}
+use Rattle.dc_commit.specs.Making.{ways}
+use Rattle.dc_commit.proofs.MakeLemmas.{length-ways}
 
 -- ---- what a later tree denies, an earlier one denies
 pub told_back : (P Q : Tree → Type 0) (f : Tree → Tree) (old now : Option Tree) → now ≡ option_map f old → IfSome now Q → ((t : Tree) → Q (f t) → P t) → IfSome old P
@@ -95,8 +97,3 @@ pub land_stop : (target : Names) (done : List Content) (file : Content) (rest : 
 land_stop target done file rest None now before after l q = tt
 land_stop target done file rest (Some t) now before after l q = λ can.
     subst (λ (o : Option Tree). IfSome o (λ t. CanLandAt t target file → ⊥)) (l.tree (land_told target done (file ∷ rest) t can)) q (land_at target done file rest t can)
-
--- what an iterator has given and what it still has are what it began with
-pub given_so_far : {S A : Type 0} (steps : S → Option A → S → Type 0) (items : S → List A) → ((s : S) (x : A) (t : S) → steps s (Some x) t → items s ≡ x ∷ items t) → (xs : List A) (s t : S) → Yields steps s xs t → items s ≡ xs ++ items t
-given_so_far steps items first [] s t y = ap items y
-given_so_far steps items first (x ∷ xs) s t y = first s x y.0 y.1 ∙ ap (λ rest. x ∷ rest) (given_so_far steps items first xs y.0 t y.2)

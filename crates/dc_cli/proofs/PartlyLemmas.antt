@@ -16,7 +16,7 @@ use Rattle.dc_cli.specs.During.{AreDirs, partly, IsToldAs, IsMaking, IsLanding, 
 use Rattle.dc_cli.specs.Effects.{path_of}
 use Rattle.dc_cli.specs.Items.{rel_of, item_of, AreItems}
 use Rattle.dc_cli.specs.Listed.{Listing, listed}
-use Rattle.dc_cli.specs.Phases.{ways, dir_places, all_made, all_landed, is_dir_item, is_file_item, content_of, contents_of, file_bytes}
+use Rattle.dc_cli.specs.Phases.{dir_places, all_made, all_landed, is_dir_item, is_file_item, content_of, contents_of, file_bytes}
 use Rattle.dc_cli.specs.Result.{copied, result}
 use Rattle.dc_cli.specs.Steps.{effect_of, is_told}
 use Rattle.dc_cli.specs.Stops.{MadeUpTo, HaveLanded, CommitStops, NotBegun}
@@ -39,6 +39,7 @@ use Rattle.dc_path.proofs.PathLemmas.{same_path-flip}
 use Rattle.std.specs.Cmp.{first_so, second_so}
 use Rattle.std.proofs.lemmas.Bool.{and_from}
 use Rattle.dc_attrs.proofs.TreeLemmas.{stands_at}
+use Rattle.dc_commit.specs.Making.{ways}
 
 -- ---- a front of a list that ascends
 above-take : (p : Names) (k : ℕ) (xs : List Item) → list_all (path_lt p) (map rel_of xs) ≡ true → list_all (path_lt p) (map rel_of (take k xs)) ≡ true

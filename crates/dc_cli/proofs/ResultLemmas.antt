@@ -13,7 +13,7 @@ use Rattle.dc_attrs.specs.Trees.{Node, Dir, File, Tree, IsDirAt, updated, made, 
 use Rattle.dc_fs.specs.Temporaries.{told_if}
 use Rattle.dc_cli.specs.Items.{rel_of, item_of, AreItems}
 use Rattle.dc_cli.specs.Listed.{listed}
-use Rattle.dc_cli.specs.Phases.{ways, folder_places, dir_places, place_of, all_made, all_landed, landed_as, is_dir_item, is_file_item, content_of, contents_of, file_bytes}
+use Rattle.dc_cli.specs.Phases.{folder_places, dir_places, place_of, all_made, all_landed, landed_as, is_dir_item, is_file_item, content_of, contents_of, file_bytes}
 use Rattle.dc_cli.specs.Result.{copied, result}
 use Rattle.dc_cli.specs.Steps.{is_told}
 use Rattle.dc_cli.specs.declared.listing.Item.{Item}
@@ -22,6 +22,7 @@ use Rattle.std.specs.Cmp.{second_so}
 use Rattle.dc_attrs.proofs.TreeLemmas.{stands_at}
 use Rattle.dc_cli.proofs.ListingLemmas.{or-false}
 use Rattle.std.proofs.lemmas.Bool.{or_right}
+use Rattle.dc_commit.specs.Making.{ways}
 
 -- ---- directories that are made, at one path
 twice_made : (b : Bool) (o : Option Node) (c : Bool) → cond b (made (cond c (made o) o)) (cond c (made o) o) ≡ cond (c || b) (made o) o

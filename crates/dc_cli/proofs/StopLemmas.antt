@@ -10,14 +10,14 @@ use Rattle.dc_fs.specs.Causes.{Rose}
 use Rattle.dc_fs.specs.Rest.{Rest}
 use Rattle.dc_fs.specs.declared.errors.WriteError.{WriteError}
 use Rattle.dc_fs.specs.declared.errors.WriteError.TheVariants as write_error
-use Rattle.dc_cli.specs.Phases.{Content, ways, folder_places, dir_places, all_made, all_landed}
+use Rattle.dc_cli.specs.Phases.{Content, folder_places, dir_places, all_made, all_landed}
 use Rattle.dc_cli.specs.Checks.{is_target_fault, is_own_fault, is_copy_fault, is_late_fault, outcome_of_listing}
 use Rattle.dc_cli.specs.Runs.{outcome_of_copy, outcome_of_opening, outcome_of_step}
 use Rattle.dc_cli.specs.During.{EndsIn}
 use Rattle.dc_cli.specs.Steps.{effect_of, LandsAll}
 use Rattle.dc_cli.specs.Stops.{StopsAfter, MadeUpTo, Behind, LandedUpTo, HaveLanded, NotBegun, IsCleared}
-use Rattle.dc_cli.specs.declared.commit.StepError.{StepError}
-use Rattle.dc_cli.specs.declared.commit.StepError.TheVariants as step_error
+use Rattle.dc_commit.specs.declared.steps.StepError.{StepError}
+use Rattle.dc_commit.specs.declared.steps.StepError.TheVariants as step_error
 use Rattle.dc_cli.specs.declared.copying.CopyError.{CopyError}
 use Rattle.dc_cli.specs.declared.copying.CopyError.TheVariants as copy_error
 use Rattle.dc_cli.specs.declared.listing.Item.{Item}
@@ -27,8 +27,11 @@ use Rattle.dc_cli.specs.declared.outcome.Outcome.{Outcome}
 use Rattle.dc_cli.specs.declared.outcome.Outcome.TheVariants as outcome
 use Rattle.dc_cli.specs.declared.outcome.Phase.{Phase}
 use Rattle.dc_cli.specs.declared.outcome.Phase.TheVariants as phase_of
-use Rattle.dc_cli.proofs.CommitLemmas.{told_then, length-ways, way_step, folder_step, folders_more, all_made-append}
+use Rattle.dc_cli.proofs.CommitLemmas.{way_step, folder_step, folders_more, all_made-append}
 use Rattle.dc_cli.proofs.MakeLemmas.{folder_places-append}
+use Rattle.dc_commit.specs.Making.{ways}
+use Rattle.dc_commit.proofs.MakeLemmas.{length-ways}
+use Rattle.dc_commit.proofs.StepLemmas.{told_then}
 
 -- ---- numbers of elements
 pub stops_at : (P : ℕ → Type 0) (n : ℕ) (e : StepError) → StopsAfter (λ k. k ≡ n) e → P n → StopsAfter P e

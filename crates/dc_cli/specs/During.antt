@@ -6,12 +6,12 @@ use Rattle.dc_attrs.specs.Trees.{Tree, made}
 use Rattle.dc_fs.specs.declared.target.Landed.{Landed}
 use Rattle.dc_cli.specs.Effects.{AreEffects, AreFolders, GainsEffects, path_of}
 use Rattle.dc_cli.specs.Listed.{Listing}
-use Rattle.dc_cli.specs.Phases.{ways}
 use Rattle.dc_cli.specs.Result.{IsResult, copied}
 use Rattle.dc_cli.specs.declared.outcome.Outcome.{Outcome}
 use Rattle.dc_cli.specs.declared.outcome.Outcome.TheVariants as outcome
 use Rattle.dc_cli.specs.declared.outcome.Phase.{Phase}
 use Rattle.dc_cli.specs.declared.outcome.Phase.TheVariants as phase_of
+use Rattle.dc_commit.specs.Making.{ways}
 
 -- ---- the elements of the phases
 -- the directories of a run, in the order in which they are made: on the way to the target, the target itself, and the

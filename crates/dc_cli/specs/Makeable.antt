@@ -3,25 +3,10 @@ use Rattle.std.specs.Prelude.{◌≡◌, Bool, true, false, List, [], ◌∷◌,
 use Rattle.dc_path.specs.Paths.{Names, fits}
 use Rattle.dc_attrs.specs.Trees.{Tree, updated, made}
 use Rattle.dc_attrs.specs.Refusals.{refused_dir, refused_put}
-use Rattle.dc_attrs.specs.declared.refusals.TreeError.{TreeError}
-use Rattle.dc_attrs.specs.declared.refusals.TreeError.TheVariants as tree_error
 use Rattle.dc_cli.specs.Phases.{Content, dir_places, landed_as}
 use Rattle.dc_cli.specs.Steps.{is_told}
-use Rattle.dc_cli.specs.declared.commit.StepError.{StepError}
-use Rattle.dc_cli.specs.declared.commit.StepError.TheVariants as step_error
+use Rattle.dc_commit.specs.Making.{is_hindrance}
 use Rattle.dc_cli.specs.declared.listing.Item.{Item}
-
--- the target refused what it allowed by what it showed before
-abbrev pub is_step_changed : StepError → Bool
-is_step_changed (step_error.Fault done) = false
-is_step_changed (step_error.Changed path) = true
-is_step_changed (step_error.Memory done) = false
-
--- a refusal other than that something stands there already
-abbrev pub is_hindrance : Option TreeError → Bool
-is_hindrance None = false
-is_hindrance (Some tree_error.Exists) = false
-is_hindrance (Some e) = true
 
 -- a directory stands there or can be made there
 pub record CanMakeAt (t : Tree) (place : Names) : Type 0 where

@@ -5,6 +5,7 @@ use Rattle.dc_path.specs.Paths.{Names}
 use Rattle.dc_attrs.specs.Attributes.{default_file}
 use Rattle.dc_attrs.specs.Trees.{Node, Dir, File, Tree, updated, made}
 use Rattle.dc_fs.specs.Temporaries.{told_if}
+use Rattle.dc_commit.specs.Making.{ways}
 use Rattle.dc_cli.specs.Items.{rel_of}
 use Rattle.dc_cli.specs.declared.listing.Item.{Item}
 use Rattle.dc_cli.specs.declared.outcome.Counts.{Counts}
@@ -22,11 +23,6 @@ file_bytes (Some (Dir a)) = []
 file_bytes (Some (File b a)) = b
 
 -- ---- directories
--- the prefixes of a path but the root, the shortest first
-abbrev pub ways : Names → List Names
-ways [] = []
-ways (x ∷ path) = (x ∷ []) ∷ map (λ (way : Names). x ∷ way) (ways path)
-
 -- the places of the listed directories under the target
 abbrev pub place_of : Names → Item → Names
 place_of target item = target ++ rel_of item

@@ -10,8 +10,8 @@ use Rattle.dc_fs.specs.declared.errors.WriteError.TheVariants as write_error
 use Rattle.dc_cli.specs.Effects.{none_counted}
 use Rattle.dc_cli.specs.Phases.{Content, all_landed, all_made, dir_places}
 use Rattle.dc_cli.specs.Steps.{effect_of, is_told}
-use Rattle.dc_cli.specs.declared.commit.StepError.{StepError}
-use Rattle.dc_cli.specs.declared.commit.StepError.TheVariants as step_error
+use Rattle.dc_commit.specs.declared.steps.StepError.{StepError}
+use Rattle.dc_commit.specs.declared.steps.StepError.TheVariants as step_error
 use Rattle.dc_cli.specs.declared.copying.CopyError.{CopyError}
 use Rattle.dc_cli.specs.declared.copying.CopyError.TheVariants as copy_error
 use Rattle.dc_cli.specs.declared.listing.Item.{Item}

@@ -8,13 +8,6 @@ use Rattle.dc_fs.specs.Rest.{Rest}
 use Rattle.dc_fs.specs.declared.target.Landed.{Landed}
 use Rattle.dc_fs.specs.declared.target.Mode.TheVariants as mode_of
 use Rattle.dc_cli.specs.Phases.{Content, all_landed, landed_as}
-use Rattle.dc_cli.specs.declared.commit.StepError.{StepError}
-use Rattle.dc_cli.specs.declared.commit.StepError.TheVariants as step_error
-
-abbrev pub is_step_fault : StepError → Bool
-is_step_fault (step_error.Fault done) = true
-is_step_fault (step_error.Changed path) = false
-is_step_fault (step_error.Memory done) = false
 
 -- the number of bytes of what is told, and none of what is not
 abbrev pub told_length : Option (List ℕ) → ℕ

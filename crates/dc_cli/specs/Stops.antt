@@ -8,8 +8,8 @@ use Rattle.dc_fs.specs.Causes.{Rose}
 use Rattle.dc_fs.specs.Rest.{Rest}
 use Rattle.dc_cli.specs.Phases.{Content, all_landed, all_made, dir_places}
 use Rattle.dc_cli.specs.Steps.{effect_of, is_told, LandsAll}
-use Rattle.dc_cli.specs.declared.commit.StepError.{StepError}
-use Rattle.dc_cli.specs.declared.commit.StepError.TheVariants as step_error
+use Rattle.dc_commit.specs.declared.steps.StepError.{StepError}
+use Rattle.dc_commit.specs.declared.steps.StepError.TheVariants as step_error
 use Rattle.dc_cli.specs.declared.listing.Item.{Item}
 use Rattle.dc_cli.specs.declared.outcome.Phase.{Phase}
 use Rattle.dc_cli.specs.declared.outcome.Phase.TheVariants as phase_of

@@ -6,34 +6,26 @@ ghost use Rattle.std.specs.Option.{option_map};
 ghost use Rattle.dc_attrs.specs.Trees.{updated, made};
 ghost use Rattle.dc_fs.specs.Answers.{Changes, is_refusal};
 ghost use Rattle.dc_fs.specs.Causes.{Rose, HasCause, steady_at};
-ghost use Rattle.dc_cli.specs.Phases.{ways, dir_places, folder_places, all_made};
-ghost use Rattle.dc_cli.specs.Makeable.{is_step_changed, CanMakeAt, CanMake, CanMakeAll, CanLandAt, CanLandAll};
+ghost use Rattle.dc_cli.specs.Phases.{dir_places, folder_places, all_made};
+ghost use Rattle.dc_cli.specs.Makeable.{CanMakeAt, CanMake, CanMakeAll, CanLandAt, CanLandAll};
 ghost use Rattle.dc_cli.specs.Ready.{content_in, sized_in, sized_effect};
-ghost use Rattle.dc_cli.specs.Steps.{is_step_fault, LandsAll, Landing};
+ghost use Rattle.dc_cli.specs.Steps.{LandsAll, Landing};
 ghost use Rattle.dc_cli.specs.Stops.{StopsAfter, MadeUpTo, Behind, LandedUpTo, KeepsDesks};
 ghost use Rattle.dc_path.specs.Paths.{fits};
+ghost use Rattle.dc_commit.specs.Making.{ways};
+ghost use Rattle.dc_commit.specs.Steps.{is_changed, is_fault};
 
 use crate::copying::Ready;
 use crate::listing::Item;
+use dc_commit::StepError;
 use dc_fs::{Desk, Mode, Target, WriteError};
 use dc_path::{List, OutOfMemory, Path, PathError};
 use std::alloc::Global;
 
-/// Why a part of the commit stops; `done` counts its elements that are finished.
-#[derive(Drop)]
-pub enum StepError {
-    /// The target failed.
-    Fault { done: u64 },
-    /// The target refused what it allowed by what it showed before, at this path.
-    Changed { path: Path },
-    /// Memory ran out.
-    Memory { done: u64 },
-}
-
 // What is answered of a call at a path that the target refused after so many elements.
 fn stopped(alloc: Global, error: WriteError, path: &Path, done: u64) -> StepError
-    ensures fault { is_step_fault result ≡ true → error ≡ WriteError.Fault }
-    ensures changed { is_step_changed result ≡ true → is_refusal error ≡ true }
+    ensures fault { is_fault result ≡ true → error ≡ WriteError.Fault }
+    ensures changed { is_changed result ≡ true → is_refusal error ≡ true }
     ensures done { StopsAfter (λ k. k ≡ done) result }
 {
     match error {
@@ -78,11 +70,11 @@ fn make_place<T: Target>(alloc: Global, target: &mut T, place: &Path) -> Result<
 fn make_way<T: Target>(alloc: Global, target: &mut T, place: &Path) -> Result<(), StepError>
     ensures ok { OnOk result (T.tree target.new ≡ option_map (all_made (ways place.now)) (T.tree target.old)) }
     ensures stops { IfErr result (StopsAfter (MadeUpTo (ways place.now) (T.tree target.old) (T.tree target.new))) }
-    ensures changed { IfErr result (λ e. is_step_changed e ≡ true → IfSome (T.tree target.old) (λ t. CanMake t (ways place.now) → ⊥)) }
+    ensures changed { IfErr result (λ e. is_changed e ≡ true → IfSome (T.tree target.old) (λ t. CanMake t (ways place.now) → ⊥)) }
     ensures rest { T.rest target.new ≡ T.rest target.old }
     ensures later { T.faults target.old ≤ T.faults target.new }
     ensures calm { steady_at (T.steady target.new) (T.faults target.new) ≡ steady_at (T.steady target.old) (T.faults target.old) }
-    ensures cause { IfErr result (λ e. is_step_fault e ≡ true → Rose (T.faults target.old) (T.faults target.new)) }
+    ensures cause { IfErr result (λ e. is_fault e ≡ true → Rose (T.faults target.old) (T.faults target.new)) }
     ensures still { OnOk result (T.faults target.new ≡ T.faults target.old) }
 {
     let mut at = Path::root(alloc);
@@ -145,11 +137,11 @@ fn make_items<T: Target>(
     requires { first + length items.now < 2 ^ 64 }
     ensures ok { OnOk result (T.tree target.new ≡ option_map (all_made (folder_places base.now items.now)) (T.tree target.old)) }
     ensures stops { IfErr result (StopsAfter (Behind first (MadeUpTo (folder_places base.now items.now) (T.tree target.old) (T.tree target.new)))) }
-    ensures changed { IfErr result (λ e. is_step_changed e ≡ true → IfSome (T.tree target.old) (λ t. CanMake t (folder_places base.now items.now) → ⊥)) }
+    ensures changed { IfErr result (λ e. is_changed e ≡ true → IfSome (T.tree target.old) (λ t. CanMake t (folder_places base.now items.now) → ⊥)) }
     ensures rest { T.rest target.new ≡ T.rest target.old }
     ensures later { T.faults target.old ≤ T.faults target.new }
     ensures calm { steady_at (T.steady target.new) (T.faults target.new) ≡ steady_at (T.steady target.old) (T.faults target.old) }
-    ensures cause { IfErr result (λ e. is_step_fault e ≡ true → Rose (T.faults target.old) (T.faults target.new)) }
+    ensures cause { IfErr result (λ e. is_fault e ≡ true → Rose (T.faults target.old) (T.faults target.new)) }
     ensures still { OnOk result (T.faults target.new ≡ T.faults target.old) }
 {
     let mut done = first;
@@ -175,11 +167,11 @@ pub fn make_dirs<T: Target>(
     requires { length items.now ≤ 1048576 }
     ensures ok { OnOk result (T.tree target.new ≡ option_map (all_made (dir_places place.now items.now)) (T.tree target.old)) }
     ensures stops { IfErr result (StopsAfter (MadeUpTo (dir_places place.now items.now) (T.tree target.old) (T.tree target.new))) }
-    ensures changed { IfErr result (λ e. is_step_changed e ≡ true → IfSome (T.tree target.old) (λ t. CanMakeAll t place.now items.now → ⊥)) }
+    ensures changed { IfErr result (λ e. is_changed e ≡ true → IfSome (T.tree target.old) (λ t. CanMakeAll t place.now items.now → ⊥)) }
     ensures rest { T.rest target.new ≡ T.rest target.old }
     ensures later { T.faults target.old ≤ T.faults target.new }
     ensures calm { steady_at (T.steady target.new) (T.faults target.new) ≡ steady_at (T.steady target.old) (T.faults target.old) }
-    ensures cause { IfErr result (λ e. is_step_fault e ≡ true → Rose (T.faults target.old) (T.faults target.new)) }
+    ensures cause { IfErr result (λ e. is_fault e ≡ true → Rose (T.faults target.old) (T.faults target.new)) }
     ensures still { OnOk result (T.faults target.new ≡ T.faults target.old) }
 {
     make_way(alloc, target, place)?;
@@ -227,10 +219,10 @@ pub fn land_all<T: Target>(
     ensures desks { KeepsDesks (T.rest target.old) (T.rest target.new) }
     ensures sized { OnOk result ((T.rest target.new).landed ≡ (T.rest target.old).landed ++ map (sized_effect base.now) (map (sized_in T.Desk.Temp.size) files.entry.items)) }
     ensures stops { IfErr result (StopsAfter (LandedUpTo base.now (map (content_in T.Desk.Temp.content) files.entry.items) (T.tree target.old) (T.tree target.new) (T.rest target.old) (T.rest target.new))) }
-    ensures changed { IfErr result (λ e. is_step_changed e ≡ true → IfSome (T.tree target.old) (λ t. CanLandAll t base.now (map (content_in T.Desk.Temp.content) files.entry.items) → ⊥)) }
+    ensures changed { IfErr result (λ e. is_changed e ≡ true → IfSome (T.tree target.old) (λ t. CanLandAll t base.now (map (content_in T.Desk.Temp.content) files.entry.items) → ⊥)) }
     ensures later { T.faults target.old ≤ T.faults target.new }
     ensures calm { steady_at (T.steady target.new) (T.faults target.new) ≡ steady_at (T.steady target.old) (T.faults target.old) }
-    ensures cause { IfErr result (λ e. is_step_fault e ≡ true → Rose (T.faults target.old) (T.faults target.new)) }
+    ensures cause { IfErr result (λ e. is_fault e ≡ true → Rose (T.faults target.old) (T.faults target.new)) }
     ensures still { OnOk result (T.faults target.new ≡ T.faults target.old) }
 {
     let mut done = 0u64;

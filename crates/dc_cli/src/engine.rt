@@ -20,11 +20,12 @@ ghost use Rattle.dc_cli.specs.During.{During, EndsIn};
 ghost use Rattle.dc_cli.specs.Stops.{CommitStops, NotBegun, KeepsDesks, IsCleared};
 ghost use Rattle.dc_cli.specs.Runs.{outcome_of_copy, outcome_of_opening, outcome_of_step, Finishes};
 
-use crate::commit::{StepError, land_all, make_dirs};
+use crate::commit::{land_all, make_dirs};
 use crate::copying::{CopyError, Ready, copy_files};
 use crate::listing::Item;
 use crate::survey::survey;
 use crate::{Counts, Outcome, Phase};
+use dc_commit::StepError;
 use dc_fs::{Desk, Store, Target, WriteError};
 use dc_path::Path;
 use std::alloc::Global;

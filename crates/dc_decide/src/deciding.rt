@@ -200,6 +200,7 @@ pub fn decide<S: Source, T: Target>(
     ensures fits { IfOk result (λ d. IsDecision (decision_of item.now d)) }
     ensures obeys { IfOk result (λ d. Obeys options.now item.now.dir (is_some d.before) d.action) }
     ensures clash { IfSome (T.tree target.old) (λ t. ClashesIf (clashes item.now.dir (seen t place.now)) result) }
+    ensures unfailed { IfErr result (λ e. is_clash e ≡ true → (S.faults source.new ≡ S.faults source.old) × (T.faults target.new ≡ T.faults target.old)) }
     ensures changed { IfErr result (λ e. IfChanged e (IsDenied (S.tree source.old) (T.tree target.old) item.now place.now)) }
 {
     let shown = match target.kind(place) {

@@ -7,10 +7,11 @@ use Rattle.dc_cli.specs.Ready.{content_in, sized_in, sized_effect}
 use Rattle.dc_cli.specs.Steps.{LandsAll}
 use Rattle.dc_cli.proofs.SizeLemmas.{landed_step}
 use Rattle.dc_cli.proofs.CommitLemmas.{lands_step}
-use Rattle.dc_cli.proofs.MakeLemmas.{land_stop, given_so_far}
+use Rattle.dc_cli.proofs.MakeLemmas.{land_stop}
 use Rattle.dc_cli.specs.Stops.{LandedUpTo}
 use Rattle.dc_cli.proofs.StopLemmas.{stops_at, lands_stop}
 use Rattle.dc_cli.proofs.commit.land_all.Goals as goal
+use Rattle.dc_commit.proofs.LandLemmas.{given_so_far}
 
 pub loop-file-preserved : goal.loop-file-preserved
 loop-file-preserved g c = record {

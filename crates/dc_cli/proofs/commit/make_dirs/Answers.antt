@@ -2,10 +2,11 @@ use Rattle.std.proofs.Common.{ℕ, subst}
 use Rattle.std.proofs.lemmas.Result.{err_from_is_err_and}
 use Rattle.dc_cli.proofs.CommitLemmas.{dirs_then}
 use Rattle.dc_cli.proofs.MakeLemmas.{way_denied, folders_denied}
-use Rattle.dc_cli.specs.Phases.{ways, folder_places, dir_places}
+use Rattle.dc_cli.specs.Phases.{folder_places, dir_places}
 use Rattle.dc_cli.specs.Stops.{MadeUpTo, Behind}
 use Rattle.dc_cli.proofs.StopLemmas.{stops_weaker, way_stops_dirs, folders_stop_dirs}
 use Rattle.dc_cli.proofs.commit.make_dirs.Goals as goal
+use Rattle.dc_commit.specs.Making.{ways}
 
 pub returns-clause-ok : goal.returns-clause-ok
 returns-clause-ok g c =

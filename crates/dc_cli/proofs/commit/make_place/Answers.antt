@@ -1,5 +1,5 @@
-use Rattle.dc_cli.proofs.CommitLemmas.{exists_made}
 use Rattle.dc_cli.proofs.commit.make_place.Goals as goal
+use Rattle.dc_commit.proofs.MakeLemmas.{exists_made}
 
 pub returns-in-Err-Exists-clause-tree : goal.returns-in-Err-Exists-clause-tree
 returns-in-Err-Exists-clause-tree g c =

@@ -2,11 +2,11 @@ use Rattle.std.proofs.Common.{◌∙◌, refl, suc, take, add-one, sym, ap, arit
 use Rattle.dc_cli.proofs.CommitLemmas.{way_step, way_end}
 use Rattle.dc_cli.proofs.MakeLemmas.{never_fits, way_stop}
 use Rattle.dc_attrs.specs.Trees.{updated, made}
-use Rattle.dc_cli.specs.Phases.{ways}
 use Rattle.dc_cli.specs.Stops.{MadeUpTo}
 use Rattle.dc_cli.proofs.StopLemmas.{stops_at, was_or_done, way_stays, way_stops}
 use Rattle.dc_cli.proofs.commit.make_way.Goals as goal
 use Rattle.dc_path.specs.Paths.{fits}
+use Rattle.dc_commit.specs.Making.{ways}
 
 pub loop-done-preserved : goal.loop-done-preserved
 loop-done-preserved g c = record {

@@ -1,8 +1,9 @@
 use Rattle.std.proofs.Common.{◌≡◌, ◌≤◌, take}
 use Rattle.std.specs.Option.{option_map}
 use Rattle.dc_fs.specs.Causes.{steady_at}
-use Rattle.dc_cli.specs.Phases.{ways, all_made}
+use Rattle.dc_cli.specs.Phases.{all_made}
 use Rattle.dc_cli.proofs.commit.make_way.Given as goal
+use Rattle.dc_commit.specs.Making.{ways}
 
 -- the first directories on the way are made
 abbrev pub invariant-loop-done : goal.invariant-loop-done

@@ -1,0 +1,4 @@
+pub mod InputLemmas
+pub mod LineCounts
+pub mod StandLemmas
+pub mod SurveyLemmas

@@ -1,0 +1,19 @@
+-- The modules of the proofs.
+pub mod Folds
+pub mod Places
+pub mod Building
+pub mod Built
+pub mod Moved
+pub mod Effecting
+pub mod Lawful
+pub mod KindLemmas
+pub mod Making
+pub mod Landing
+pub mod Setting
+pub mod Beginning
+pub mod Allowed
+pub mod MoveAllowed
+pub mod Parts
+pub mod Partly
+pub mod Sparing
+pub mod Stopping
