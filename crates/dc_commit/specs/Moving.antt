@@ -49,18 +49,18 @@ LookCause look.There before now = ⊤
 LookCause look.Absent before now = ⊤
 LookCause look.Unknown before now = RoseBy 3 before now
 
--- by the views before and after: that it was not moved comes only of three renames that failed, and that nothing is known
--- only of one that failed and of three looks that did
+-- by the views before and after: that it was not moved comes only of three renames that failed, which count as faults too, and
+-- that nothing is known only of one that failed and of three looks that did
 abbrev pub MoveCause : Moved → View → View → Type 0
 MoveCause move.Moved old new = ⊤
 MoveCause move.Memory old new = ⊤
 MoveCause move.Changed old new = ⊤
-MoveCause move.NotMoved old new = RoseBy 3 old.rest.rename_faults new.rest.rename_faults
+MoveCause move.NotMoved old new = RoseBy 3 old.faults new.faults × RoseBy 3 old.rest.rename_faults new.rest.rename_faults
 MoveCause move.Uncertain old new = RoseBy 4 old.faults new.faults × Rose old.rest.rename_faults new.rest.rename_faults
 
 -- of one try: the next is asked for only where a rename failed, and no try says that it was not moved
 abbrev pub TryCause : Option Moved → View → View → Type 0
-TryCause None old new = Rose old.rest.rename_faults new.rest.rename_faults
+TryCause None old new = Rose old.faults new.faults × Rose old.rest.rename_faults new.rest.rename_faults
 TryCause (Some move.NotMoved) old new = ⊥
 TryCause (Some moved) old new = MoveCause moved old new
 

@@ -2,3 +2,14 @@ pub mod InputLemmas
 pub mod LineCounts
 pub mod StandLemmas
 pub mod SurveyLemmas
+pub mod PhaseLemmas
+pub mod WorkLemmas
+pub mod DueLemmas
+pub mod RoomLemmas
+pub mod PlanLemmas
+pub mod MissingLemmas
+pub mod BegunLemmas
+pub mod ToldPlans
+pub mod SettleLemmas
+pub mod CountLemmas
+pub mod CopyLemmas

@@ -3,3 +3,9 @@ pub mod Refusals
 pub mod Inputs
 pub mod Targets
 pub mod Surveys
+pub mod Committing
+pub mod Begun
+pub mod Sweeping
+pub mod Settling
+pub mod Counting
+pub mod Copying

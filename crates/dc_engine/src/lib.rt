@@ -1,13 +1,20 @@
 //! A run: what is surveyed, settled and finished between a source and a target.
 //!
 //! `survey` reads the files that the options name, tests the sources and the target, and lists what is to be copied. It
-//! changes nothing.
+//! changes nothing. `settle` decides what becomes of what is listed, what of the target goes, and how files are cut.
 #![tactic(auto)]
 
+mod committing;
+mod copying;
+mod counting;
 mod inputs;
+pub mod laws;
 mod outcome;
+mod settling;
 mod surveying;
+mod sweeping;
 mod targets;
 
 pub use outcome::{BadTarget, Counts, Outcome, Phase, Run, TooManyOf};
+pub use settling::{Settled, settle};
 pub use surveying::{Surveyed, survey};

@@ -119,7 +119,7 @@ within_at base before entry behind items all h =
     record { few = grind (arith, nat_tests, a); short = grind (arith, nat_tests, b) }
 
 -- nothing clashes of what the copy goes on with
-none_clash : (o : Settings) (t : Tree) (base : Names) (ds : List Decision) → o.ignore ≡ false → All (IsAsked o) ds → All (IsOutByClash t base) ds → list_any (clashes_in t base) (map item_of ds) ≡ false
+pub none_clash : (o : Settings) (t : Tree) (base : Names) (ds : List Decision) → o.ignore ≡ false → All (IsAsked o) ds → All (IsOutByClash t base) ds → list_any (clashes_in t base) (map item_of ds) ≡ false
 none_clash o t base [] i a c = refl
 none_clash o t base (d ∷ ds) i a c = rw (sym (All-head (IsOutByClash t base) d ds c) ∙ (All-head (IsAsked o) d ds a).allowed i) (none_clash o t base ds i (All-tail (IsAsked o) d ds a) (All-tail (IsOutByClash t base) d ds c))
 

@@ -1,13 +1,13 @@
 -- No tree refuses a step of a commit: each phase on the tree that those before it leave.
 use Rattle.std.proofs.Common.{◌≡◌, ◌⊎◌, inl, inr, ⊎_elim, ℕ, List, [], ◌∷◌, ◌++◌, Bool, true, false, cond, not, ◌&&◌, ◌||◌, Option, Some, None, map, filter, drop, is_some, refl, sym, ◌∙◌, ap, subst, append-nil}
-use Rattle.std.proofs.lemmas.Bool.{and_from, or_right}
+use Rattle.std.proofs.lemmas.Bool.{or_right}
 use Rattle.std.specs.Cmp.{first_so, second_so}
 use Rattle.std.specs.List.{list_all}
 use Rattle.std.specs.Option.{is_none, option_map, option_or}
 use Rattle.dc_path.specs.Found.{found, has_path}
 use Rattle.dc_path.specs.Paths.{Names, cut, front_of, is_above, is_root, is_under, same_path}
 use Rattle.dc_path.proofs.FoundLemmas.{kept}
-use Rattle.dc_path.proofs.PathLemmas.{append-cut, cut-append, same_path-refl, same_path-true, some_rest}
+use Rattle.dc_path.proofs.PathLemmas.{append-cut, cut-append, same_path-true, some_rest}
 use Rattle.dc_attrs.specs.Refusals.{refused_at, refused_root}
 use Rattle.dc_attrs.specs.Trees.{Node, Dir, File, Tree, IsTree, bytes_of, is_dir, is_dir_node, made, seen, seen_node, without}
 use Rattle.dc_attrs.proofs.TreeChanges.{clear_valid}
@@ -25,7 +25,9 @@ use Rattle.dc_commit.specs.Removals.{remove_steps}
 use Rattle.dc_commit.specs.Settings.{dir_steps, file_steps, is_dir_item, is_file_item, is_kind, place_of}
 use Rattle.dc_commit.specs.Steps.{Step, after, allows}
 use Rattle.dc_result.specs.Begins.{Begins}
-use Rattle.dc_result.specs.Commits.{IsCommit, covers, dirs_made, dirs_set, files_landed, files_set, missing_gone}
+use Rattle.dc_result.specs.Commits.{IsCommit, dirs_made, dirs_set, files_landed, files_set, missing_gone}
+use Rattle.dc_missing.specs.Missing.{covers}
+use Rattle.dc_missing.proofs.UnderLemmas.{all_of}
 use Rattle.dc_result.specs.Effects.{first_byte}
 use Rattle.dc_result.specs.Jobs.{Job, IsJob, in_run, old_at}
 use Rattle.dc_result.proofs.Beginning.{action_is, dir_is, file_place, front_had, place_is, placed, early}
@@ -86,11 +88,8 @@ same_dir (Some (Dir a)) (Some (File b c)) e h = absurd (cc)
 same_dir (Some (File b a)) u e h = absurd (cc)
 
 -- ---- a path that is removed
-all_have : (test : Names → Bool) (ps : List Names) → ((q : Names) → has_path ps q ≡ true → test q ≡ true) → list_all test ps ≡ true
-all_have test [] h = refl
-all_have test (p ∷ ps) h = and_from (test p) (list_all test ps) (h p (ap (λ b. b || has_path ps p) (same_path-refl p))) (all_have test ps (λ q k. h q (or_right (same_path p q) (has_path ps q) k)))
-
-covers_own : (ps : List Names) (q : Names) → has_path ps q ≡ true → covers ps q ≡ true
+-- a path of the list is covered
+pub covers_own : (ps : List Names) (q : Names) → has_path ps q ≡ true → covers ps q ≡ true
 covers_own [] q h = absurd (cc)
 covers_own (p ∷ ps) q h = by (same_path p q) refl (covers_own ps q) h
   where
@@ -136,7 +135,7 @@ shown_allows t p None v e h = absurd (cc)
 shown_allows t p (Some (Dir a)) v e h = ap refused_at (seen_from-there t [] p (Dir a) v e)
 shown_allows t p (Some (File b a)) v e h = ap refused_at (seen_from-there t [] p (File b a) v e)
 
-below_root : (base rel : Names) → is_root rel ≡ false → is_root (base ++ rel) ≡ false
+pub below_root : (base rel : Names) → is_root rel ≡ false → is_root (base ++ rel) ≡ false
 below_root [] rel h = h
 below_root (x ∷ base) rel h = refl
 
@@ -156,11 +155,11 @@ module _ (s : Tree) (job : Job) (items : List Decision) (landings : List Landing
   dirs_tree = subst (λ (steps : List Step). IsTree (after steps job.before)) (sym (makes_are job.target job.base items)) makes.tree
 
   -- ---- directories
-  had_dir : (q : Names) → (has_path (dir_places job.target job.base items) q ≡ true) ⊎ (is_dir_node (job.before q) ≡ true) → is_dir_node (dirs_made job (commit_of job items landings paths) q) ≡ true
-  had_dir q h =
+  had_dir : (rel : Names) (origin : Origin) → in_run job rel ≡ Some origin → (q : Names) → (has_path (dir_places job.target job.base items) q ≡ true) ⊎ (is_dir_node (job.before q) ≡ true) → is_dir_node (dirs_made job (commit_of job items landings paths) q) ≡ true
+  had_dir rel origin run q h =
       ap is_dir_node (dirs_at s job items landings paths c.planned.ascending c.lands q)
       ∙ ⊎_elim
-      (λ e. ap (λ b. is_dir_node (cond b (made (job.before q)) (job.before q))) e ∙ made_here (job.before q) (places_free s job items is c.planned begins q e))
+      (λ e. ap (λ b. is_dir_node (cond b (made (job.before q)) (job.before q))) e ∙ made_here (job.before q) (places_free s job items is c.planned begins rel origin run q e))
       (λ e. made_dir (has_path (dir_places job.target job.base items) q) (job.before q) e) h
 
   had_early : (q : Names) → early job items q ≡ true → (has_path (dir_places job.target job.base items) q ≡ true) ⊎ (is_dir_node (job.before q) ≡ true)
@@ -179,8 +178,8 @@ module _ (s : Tree) (job : Job) (items : List Decision) (landings : List Landing
 
   front_dir : (rel : Names) (origin : Origin) → in_run job rel ≡ Some origin → is_dir_node (dirs_made job (commit_of job items landings paths) (front_of (job.base ++ rel))) ≡ true
   front_dir rel origin run = ⊎_elim
-      (λ e. had_dir (front_of (job.base ++ rel)) (had_early (front_of (job.base ++ rel)) e))
-      (λ e. had_dir (front_of (job.base ++ rel)) (inl (folder_had (front_of (job.base ++ rel)) e)))
+      (λ e. had_dir rel origin run (front_of (job.base ++ rel)) (had_early (front_of (job.base ++ rel)) e))
+      (λ e. had_dir rel origin run (front_of (job.base ++ rel)) (inl (folder_had (front_of (job.base ++ rel)) e)))
       (front_had s job items is c.planned begins rel origin run)
 
   -- where a file is copied all is as before
@@ -264,12 +263,12 @@ module _ (s : Tree) (job : Job) (items : List Decision) (landings : List Landing
 
   pub removals_allowed : allows (remove_steps paths) (files_set job (commit_of job items landings paths)) ≡ true
   removals_allowed = removes_allowed paths (files_set job (commit_of job items landings paths)) c.removes.apart
-      (all_have (may_remove (files_set job (commit_of job items landings paths))) paths
+      (all_of (may_remove (files_set job (commit_of job items landings paths))) paths
       (λ q h. ap (λ o. is_none (option_or o (refused_at (seen (files_set job (commit_of job items landings paths)) q)))) (root_allows q (removed_below q h))
       ∙ ap is_none (shown_allows (files_set job (commit_of job items landings paths)) q _ set_tree refl (still_there q (ap is_some (c.removes.stood q h).1)))))
 
   gone_tree : IsTree (missing_gone job (commit_of job items landings paths))
-  gone_tree = removed_tree paths (files_set job (commit_of job items landings paths)) set_tree (all_have (λ p. not (is_root p)) paths (λ q h. ap not (removed_below q h)))
+  gone_tree = removed_tree paths (files_set job (commit_of job items landings paths)) set_tree (all_of (λ p. not (is_root p)) paths (λ q h. ap not (removed_below q h)))
 
   -- ---- attributes of directories
   folder_still : (p : Names) (d : Decision) → found (place_of job.base) (filter is_dir_item items) p ≡ Some d → is_dir_node (missing_gone job (commit_of job items landings paths) p) ≡ true
@@ -278,7 +277,7 @@ module _ (s : Tree) (job : Job) (items : List Decision) (landings : List Landing
       ap is_dir_node (gone_at s job items landings paths c.planned.ascending c.lands p
       ∙ ap (λ b. cond b None (files_set job (commit_of job items landings paths) p)) (ap (covers paths) k.0.path ∙ listed_stays job paths k.0.rel k.0.origin c.removes (run_listed job k.0.rel k.0.origin k.0.run)))
       ∙ same_dir (files_landed job (commit_of job items landings paths) p) (files_set job (commit_of job items landings paths) p) (set_same p)
-      (landed_dir p (had_dir p (inl (folder_had p (ap is_some h)))))
+      (landed_dir p (had_dir k.0.rel k.0.origin k.0.run p (inl (folder_had p (ap is_some h)))))
 
   folder_shown : (p : Names) (d : Decision) → found (place_of job.base) (filter is_dir_item items) p ≡ Some d → is_shown_at job.base (missing_gone job (commit_of job items landings paths)) d ≡ true
   folder_shown p d h =

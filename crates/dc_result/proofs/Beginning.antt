@@ -1,13 +1,14 @@
 -- What holds when a commit begins: where directories are made, and where files may land.
-use Rattle.std.proofs.Common.{◌≡◌, ◌⊎◌, inl, inr, ⊎_elim, List, [], ◌∷◌, ◌++◌, Bool, true, false, cond, not, ◌&&◌, ◌||◌, Option, Some, None, map, filter, is_some, refl, sym, ◌∙◌, ap, append-nil, append_assoc}
+use Rattle.std.proofs.Common.{◌≡◌, ◌⊎◌, inl, inr, ⊎_elim, List, [], ◌∷◌, ◌++◌, Bool, true, false, cond, not, ◌&&◌, ◌||◌, Option, Some, None, map, filter, is_some, refl, sym, ◌∙◌, ap, subst, append-nil, append_assoc}
 use Rattle.std.proofs.lemmas.Bool.{and_from, or_right}
 use Rattle.std.specs.Cmp.{second_so}
 use Rattle.std.specs.Option.{option_map, option_map_or}
 use Rattle.dc_path.specs.Found.{found, has_path}
 use Rattle.dc_path.specs.Paths.{Names, cut, front_of, is_above, is_root, same_path}
 use Rattle.dc_path.proofs.FoundLemmas.{kept}
-use Rattle.dc_path.proofs.PathLemmas.{Last, empty, ended, append-cut, cut-append, front_of-append, last_case, same_path-true}
+use Rattle.dc_path.proofs.PathLemmas.{Last, empty, ended, append-cut, cut-append, front_of-append, last_case, same_path-refl, same_path-true}
 use Rattle.dc_attrs.specs.Trees.{Node, Dir, File, Tree, IsDirAt, is_dir, is_dir_node, seen_node}
+use Rattle.dc_attrs.proofs.TreeLemmas.{seen_from-there}
 use Rattle.dc_listing.specs.Listed.{Origin, entry_at}
 use Rattle.dc_decide.specs.Deciding.{action_of, clashes, decided}
 use Rattle.dc_decide.specs.Plans.{Decision, item_rel}
@@ -15,13 +16,14 @@ use Rattle.dc_commit.specs.Making.{has_root_file, ways}
 use Rattle.dc_commit.specs.Settings.{is_dir_item, place_of}
 use Rattle.dc_result.specs.Begins.{Begins, copies_dir, is_no_file}
 use Rattle.dc_result.specs.Commits.{IsPlanOf, is_in}
-use Rattle.dc_result.specs.Jobs.{Job, IsJob, in_run, old_at}
+use Rattle.dc_result.specs.Jobs.{Job, IsJob, in_run, lists_file, old_at}
 use Rattle.dc_result.specs.Result.{is_base}
 use Rattle.dc_result.proofs.Building.{found_in}
 use Rattle.dc_result.proofs.Built.{not_above, run_listed, unclashed_node}
 use Rattle.dc_result.proofs.Folds.{found_off, has_found, part_ascends}
-use Rattle.dc_result.proofs.KindLemmas.{stands_dir}
-use Rattle.dc_result.proofs.Making.{Makes, all_made, fronted, fronted_append, fronted_ascending, ways_fronted}
+use Rattle.dc_result.proofs.KindLemmas.{parent_dir, stands_dir}
+use Rattle.dc_result.proofs.ListedAbove.{below_file}
+use Rattle.dc_result.proofs.Making.{Makes, all_made, fronted, fronted_append, fronted_ascending, made_last, ways_fronted}
 use Rattle.dc_result.proofs.Places.{base_at, base_places, dir_places, file_node, places_are, root_file, way_at}
 
 -- ---- what is found in a part of a plan
@@ -129,7 +131,7 @@ module _ (s : Tree) (job : Job) (items : List Decision) (is : IsJob s job) (plan
       by (empty n) = ap (λ (q : Names). first job (front_of q)) n ∙ stood_first [] is.tree.root
       by (ended f x n) =
           ap (λ (q : Names). first job (front_of q)) n ∙ ap (first job) (front_of-append f x)
-          ∙ ⊎_elim (λ w. way_first f w) (λ d. stood_first f d) (begins.above f x (e ∙ n))
+          ∙ ⊎_elim (λ w. way_first f w) (λ d. stood_first f d) (begins.room.above f x (e ∙ n))
 
   -- above what is copied is a directory, or one is made
   pub front_had : (rel : Names) (origin : Origin) → in_run job rel ≡ Some origin → (early job items (front_of (job.base ++ rel)) ≡ true) ⊎ (is_some (found (place_of job.base) (filter is_dir_item items) (front_of (job.base ++ rel))) ≡ true)
@@ -170,8 +172,31 @@ module _ (s : Tree) (job : Job) (items : List Decision) (is : IsJob s job) (plan
       ap (λ (p : Names). is_no_file (job.before p)) k.0.path
       ∙ dir_free (is_dir k.0.origin.node) (old_at job k.0.rel) (unclashed_node s job k.0.rel k.0.origin is k.0.run) (sym (dir_is job q d k.0) ∙ k.1)
 
-  base_free : (q : Names) → has_path (base_places job.base items) q ≡ true → is_no_file (job.before q) ≡ true
-  base_free q h = by (has_root_file items) refl h
+  -- where something is copied, and no file is listed at the root path, no file stands at the base
+  base_open : (rel : Names) (origin : Origin) → in_run job rel ≡ Some origin → lists_file job [] ≡ false → is_no_file (job.before job.base) ≡ true
+  base_open [] origin run none = by (is_dir origin.node) refl
+    where
+      by : (b : Bool) → is_dir origin.node ≡ b → is_no_file (job.before job.base) ≡ true
+      by true e = let f : true ≡ false = sym (ap (λ o. option_map_or (λ (z : Origin). is_dir z.node) o false) run ∙ e) ∙ begins.root in absurd (cc)
+      by false e = let f : true ≡ false = sym (ap (λ o. option_map_or (λ (z : Origin). not (is_dir z.node)) o false) (run_listed job [] origin run) ∙ ap not e) ∙ none in absurd (cc)
+  base_open (x ∷ rel) origin run none = by (job.before job.base) refl
+    where
+      by : (o : Option Node) → job.before job.base ≡ o → is_no_file o ≡ true
+      by None e = refl
+      by (Some (Dir a)) e = refl
+      by (Some (File b a)) e =
+          let no = below_file job.before [] job.base x rel (ap (clashes true) (seen_from-there job.before [] job.base (File b a) is.tree e)) in
+          let f : true ≡ false = sym (ap (clashes (is_dir origin.node)) no) ∙ is.unclashed (x ∷ rel) origin run in absurd (cc)
+
+  -- a base that is to be made is no file
+  abbrev IsOpen : Type 0
+  IsOpen = has_root_file items ≡ false → is_no_file (job.before job.base) ≡ true
+
+  open_by : (rel : Names) (origin : Origin) → in_run job rel ≡ Some origin → IsOpen
+  open_by rel origin run e = base_open rel origin run (sym (root_file job (record { base = job.base; items = items }) planned) ∙ e)
+
+  base_free : IsOpen → (q : Names) → has_path (base_places job.base items) q ≡ true → is_no_file (job.before q) ≡ true
+  base_free free q h = by (has_root_file items) refl h
     where
       only : (b c : Bool) → (b || false) ≡ true → b ≡ true
       only true c e = refl
@@ -179,13 +204,16 @@ module _ (s : Tree) (job : Job) (items : List Decision) (is : IsJob s job) (plan
 
       by : (b : Bool) → has_root_file items ≡ b → has_path (cond b [] (job.base ∷ [])) q ≡ true → is_no_file (job.before q) ≡ true
       by true e k = absurd (cc)
-      by false e k = ap (λ (p : Names). is_no_file (job.before p)) (sym (same_path-true job.base q (only (same_path job.base q) true k))) ∙ begins.base (sym (root_file job (record { base = job.base; items = items }) planned) ∙ e)
+      by false e k = ap (λ (p : Names). is_no_file (job.before p)) (sym (same_path-true job.base q (only (same_path job.base q) true k))) ∙ free e
 
-  pub places_free : (q : Names) → has_path (dir_places job.target job.base items) q ≡ true → is_no_file (job.before q) ≡ true
-  places_free q h = ⊎_elim
-      (λ a. begins.way q (second_so _ _ a))
-      (λ k. ⊎_elim (λ b. base_free q b) (λ c. let d = some_found q c in folder_free q d.0 d.1) k)
+  all_free : IsOpen → (q : Names) → has_path (dir_places job.target job.base items) q ≡ true → is_no_file (job.before q) ≡ true
+  all_free free q h = ⊎_elim
+      (λ a. begins.room.way q (second_so _ _ a))
+      (λ k. ⊎_elim (λ b. base_free free q b) (λ c. let d = some_found q c in folder_free q d.0 d.1) k)
       (or_three _ _ _ (sym (places_are job.target job.base items q) ∙ h))
+
+  pub places_free : (rel : Names) (origin : Origin) → in_run job rel ≡ Some origin → (q : Names) → has_path (dir_places job.target job.base items) q ≡ true → is_no_file (job.before q) ≡ true
+  places_free rel origin run = all_free (open_by rel origin run)
 
   -- ---- the directories can be made
   base_part : (has : Names → Bool) (b : Bool) → has (front_of job.base) ≡ true → fronted has (cond b [] (job.base ∷ [])) ≡ true
@@ -209,5 +237,47 @@ module _ (s : Tree) (job : Job) (items : List Decision) (is : IsJob s job) (plan
       (base_part (first job) (has_root_file items) (base_front job.base refl))
       (fronted_ascending (early job items) (map (place_of job.base) (filter is_dir_item items)) (first_early [] (stood_first [] is.tree.root)) (part_ascends job.base is_dir_item items planned.ascending) folder_front))
 
+  -- where a file stands at a base that is to be made, nothing is copied, and the base counts as made
+  folders_none : is_no_file (job.before job.base) ≡ false → has_root_file items ≡ false → filter is_dir_item items ≡ []
+  folders_none file none = by (filter is_dir_item items) refl
+    where
+      by : (ds : List Decision) → filter is_dir_item items ≡ ds → ds ≡ []
+      by [] e = refl
+      by (d ∷ ds) e =
+          let at : found (place_of job.base) (filter is_dir_item items) (place_of job.base d) ≡ Some d =
+          ap (λ (xs : List Decision). found (place_of job.base) xs (place_of job.base d)) e
+          ∙ ap (λ b. cond b (Some d) (found (place_of job.base) ds (place_of job.base d))) (same_path-refl (place_of job.base d)) in
+          let k = placed s job items is planned (λ d. d.item.dir) (place_of job.base d) d at in
+          let f : true ≡ false = sym (open_by k.0.rel k.0.origin k.0.run none) ∙ file in absurd (cc)
+
+  base_parent : (p : Names) → job.base ≡ p → is_no_file (job.before job.base) ≡ false → is_dir_node (job.before (front_of p)) ≡ true
+  base_parent p e file = by (last_case p) (job.before job.base) refl file
+    where
+      by : Last p → (o : Option Node) → job.before job.base ≡ o → is_no_file o ≡ false → is_dir_node (job.before (front_of p)) ≡ true
+      by l None f h = absurd (cc)
+      by (empty n) (Some m) f h =
+          let g : true ≡ false = sym (stands_dir job.before [] is.tree.root) ∙ ap (λ (q : Names). is_dir_node (job.before q)) (sym (e ∙ n)) ∙ ap is_dir_node f ∙ h in absurd (cc)
+      by (ended q x n) (Some m) f h =
+          ap (λ (r : Names). is_dir_node (job.before (front_of r))) n ∙ ap (λ (r : Names). is_dir_node (job.before r)) (front_of-append q x)
+          ∙ parent_dir job.before q x m is.tree (ap job.before (sym (e ∙ n)) ∙ f)
+
+  makes_onto : is_no_file (job.before job.base) ≡ false → has_root_file items ≡ false → Makes (dir_places job.target job.base items) job.before
+  makes_onto file none =
+      let made_ways = all_made (ways (front_of job.target)) job.before (λ q. is_dir_node (job.before q)) is.tree (λ q h. h)
+      (λ q h. begins.room.way q (second_so _ _ (sym (way_at job.target q) ∙ h)))
+      (ways_fronted (λ q. is_dir_node (job.before q)) (front_of job.target) (stands_dir job.before [] is.tree.root)) in
+      let places : dir_places job.target job.base items ≡ ways (front_of job.target) ++ job.base ∷ [] =
+      ap (λ b. ways (front_of job.target) ++ (cond b [] (job.base ∷ []) ++ map (place_of job.base) (filter is_dir_item items))) none
+      ∙ ap (λ (ds : List Decision). ways (front_of job.target) ++ (job.base ∷ map (place_of job.base) ds)) (folders_none file none) in
+      subst (λ (ps : List Names). Makes ps job.before) (sym places) (made_last (ways (front_of job.target)) job.base job.before (base_parent job.base refl file) made_ways)
+
   pub makes_all : Makes (dir_places job.target job.base items) job.before
-  makes_all = all_made (dir_places job.target job.base items) job.before (λ q. is_dir_node (job.before q)) is.tree (λ q h. h) places_free all_fronted
+  makes_all = by (is_no_file (job.before job.base)) (has_root_file items) refl refl
+    where
+      open_made : IsOpen → Makes (dir_places job.target job.base items) job.before
+      open_made free = all_made (dir_places job.target job.base items) job.before (λ q. is_dir_node (job.before q)) is.tree (λ q h. h) (all_free free) all_fronted
+
+      by : (b c : Bool) → is_no_file (job.before job.base) ≡ b → has_root_file items ≡ c → Makes (dir_places job.target job.base items) job.before
+      by true c e f = open_made (λ _. e)
+      by false true e f = open_made (λ g. let h : true ≡ false = sym f ∙ g in absurd (cc))
+      by false false e f = makes_onto e f

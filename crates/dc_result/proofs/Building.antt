@@ -18,7 +18,8 @@ use Rattle.dc_decide.specs.declared.action.Action.TheVariants as action
 use Rattle.dc_commit.specs.Landing.{Landing, is_landing, is_written, land_step, landed_as, landing_mode}
 use Rattle.dc_commit.specs.Settings.{attrs_under, final_attrs, is_dir_item, is_file_item, place_of, set_step}
 use Rattle.dc_commit.specs.Steps.{Step, after}
-use Rattle.dc_result.specs.Commits.{Commit, AreLandings, WholeFile, covers, dirs_made, dirs_set, files_landed, files_set, is_in, missing_gone, whole_from, whole_of}
+use Rattle.dc_result.specs.Commits.{Commit, AreLandings, WholeFile, dirs_made, dirs_set, files_landed, files_set, is_in, missing_gone, whole_from, whole_of}
+use Rattle.dc_missing.specs.Missing.{covers}
 use Rattle.dc_result.specs.Effects.{first_byte}
 use Rattle.dc_result.specs.Jobs.{Job}
 use Rattle.dc_result.specs.Result.{attrs_after, bytes_after, copied, result_on}

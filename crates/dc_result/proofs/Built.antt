@@ -20,7 +20,8 @@ use Rattle.dc_decide.specs.Plans.{Decision, item_rel}
 use Rattle.dc_commit.specs.Landing.{Landing, is_landing, is_written}
 use Rattle.dc_commit.specs.Making.{has_root_file}
 use Rattle.dc_commit.specs.Settings.{is_dir_item, is_file_item, place_of}
-use Rattle.dc_result.specs.Commits.{Commit, AreRemovals, IsCommit, covers, dirs_set, is_in}
+use Rattle.dc_result.specs.Commits.{Commit, AreRemovals, IsCommit, dirs_set, is_in}
+use Rattle.dc_missing.specs.Missing.{covers}
 use Rattle.dc_result.specs.Jobs.{Job, IsBaseFor, IsJob, in_run, old_at}
 use Rattle.dc_result.specs.Result.{AreGone, IsBuilt, built, is_base, result_on}
 use Rattle.dc_result.proofs.Building.{at_path, commit_of, found_in, landing, phases_at, phases_on, setting}

@@ -16,7 +16,8 @@ use Rattle.dc_commit.specs.Removals.{remove_steps}
 use Rattle.dc_commit.specs.Settings.{place_of}
 use Rattle.dc_commit.specs.Steps.{Step, after}
 use Rattle.dc_commit.proofs.StepLemmas.{after-append}
-use Rattle.dc_result.specs.Commits.{covers, is_in}
+use Rattle.dc_result.specs.Commits.{is_in}
+use Rattle.dc_missing.specs.Missing.{covers}
 
 -- ---- steps that change what stands at their places
 -- what an item makes of what stands at its place, if there is one
@@ -102,7 +103,7 @@ places_ascend base (d ∷ ds) =
 pub part_ascends : (base : Names) (test : Decision → Bool) (ds : List Decision) → is_ascending (map item_rel ds) ≡ true → is_ascending (map (place_of base) (filter test ds)) ≡ true
 part_ascends base test ds a = places_ascend base (filter test ds) ∙ ascending-filter item_rel test ds a
 
-has_one : {A : Type 0} (x : A) (o : Option A) (b c : Bool) → c ≡ is_some o → (b || c) ≡ is_some (cond b (Some x) o)
+pub has_one : {A : Type 0} (x : A) (o : Option A) (b c : Bool) → c ≡ is_some o → (b || c) ≡ is_some (cond b (Some x) o)
 has_one x o true c e = refl
 has_one x o false c e = e
 

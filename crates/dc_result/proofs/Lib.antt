@@ -17,3 +17,9 @@ pub mod Parts
 pub mod Partly
 pub mod Sparing
 pub mod Stopping
+pub mod Planning
+pub mod ListedAbove
+pub mod RootPlaces
+pub mod Removing
+pub mod ReadyLemmas
+pub mod Untouched

@@ -121,3 +121,13 @@ all_made (p ∷ ps) t has v dirs free f =
     now : (q : Names) (b : Bool) → same_path p q ≡ b → (b || has q) ≡ true → is_dir_node (cond b (made (t q)) (t q)) ≡ true
     now q true e h = made_here (t q) (free q (ap (λ c. c || has_path ps q) e))
     now q false e h = dirs q h
+
+-- one more at the end, whose parent was a directory before
+pub made_last : (ps : List Names) (p : Names) (t : Tree) → is_dir_node (t (front_of p)) ≡ true → Makes ps t → Makes (ps ++ p ∷ []) t
+made_last [] p t d m = record {
+  allowed = and_from ((make_step p).may t) true (makes_one t p m.tree d) refl;
+  tree = changed_tree t p made m.tree d (λ q h. made_dir (same_path p q) (t q) h);
+}
+made_last (q ∷ ps) p t d m =
+    let rest = made_last ps p (updated t q made) (made_dir (same_path q (front_of p)) (t (front_of p)) d) (record { allowed = second_so _ _ m.allowed; tree = m.tree }) in
+    record { allowed = and_from ((make_step q).may t) _ (first_so _ _ m.allowed) rest.allowed; tree = rest.tree }

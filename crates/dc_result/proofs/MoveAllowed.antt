@@ -10,7 +10,8 @@ use Rattle.dc_listing.specs.Listed.{Origin}
 use Rattle.dc_options.specs.Settings.{Settings}
 use Rattle.dc_result.specs.Atomic.{HasWork, IsAtomic, IsEmptyAt}
 use Rattle.dc_result.specs.Begins.{Begins}
-use Rattle.dc_result.specs.Commits.{Commit, IsCommit, covers, dirs_set}
+use Rattle.dc_result.specs.Commits.{Commit, IsCommit, dirs_set}
+use Rattle.dc_missing.specs.Missing.{covers}
 use Rattle.dc_result.specs.Jobs.{IsJob, Job, in_run, lists_file}
 use Rattle.dc_result.specs.Result.{is_base, result_on}
 use Rattle.dc_result.proofs.Allowed.{shown_allows}
@@ -70,7 +71,7 @@ module _ (s : Tree) (job : Job) (commit : Commit) (is : IsJob s job) (begins : B
       ap (λ (q : Names). is_dir_node (dirs_set job commit q)) (ap front_of k.path ∙ front_of-append k.front k.name)
       ∙ ap is_dir_node (built_off k.front (cut_front job.base k.front (k.name ∷ []) (ap (cut job.base) (sym k.path) ∙ target_off))
       ∙ ap (λ b. cond b (made (job.before k.front)) (job.before k.front)) up)
-      ∙ made_here (job.before k.front) (begins.way k.front up)
+      ∙ made_here (job.before k.front) (begins.room.way k.front up)
 
   pub move_allowed : HasWork job → refused_rename (dirs_set job commit) job.base job.target ≡ None
   move_allowed work = not_refused (dirs_set job commit) job.base job.target

@@ -3,7 +3,8 @@ use Rattle.std.proofs.Common.{◌≡◌, inr, ◌++◌, Bool, cond, Option, Some
 use Rattle.dc_path.specs.Paths.{Names, cut, at_cut, is_above}
 use Rattle.dc_path.proofs.PathLemmas.{append-cut, cut-append}
 use Rattle.dc_attrs.specs.Trees.{Node, Tree, made, moved, without}
-use Rattle.dc_result.specs.Commits.{Commit, IsCommit, covers, dirs_set}
+use Rattle.dc_result.specs.Commits.{Commit, IsCommit, dirs_set}
+use Rattle.dc_missing.specs.Missing.{covers}
 use Rattle.dc_result.specs.Jobs.{Job, IsJob, at_target, in_run}
 use Rattle.dc_result.specs.Result.{AreGone, IsResult, built, is_base, result, result_on}
 use Rattle.dc_result.specs.Atomic.{IsAtomic, IsEmptyAt}

@@ -24,7 +24,8 @@ use Rattle.dc_commit.specs.Making.{make_step, ways}
 use Rattle.dc_commit.specs.Removals.{remove_step}
 use Rattle.dc_commit.specs.Settings.{is_dir_item, is_file_item, place_of, set_step}
 use Rattle.dc_commit.specs.Steps.{Step, after}
-use Rattle.dc_result.specs.Commits.{IsCommit, covers, dirs_made, files_landed, files_set, missing_gone}
+use Rattle.dc_result.specs.Commits.{IsCommit, dirs_made, files_landed, files_set, missing_gone}
+use Rattle.dc_missing.specs.Missing.{covers}
 use Rattle.dc_result.specs.During.{AreElements, Elements, Making, Landing as AtLanding, SettingFiles, Removing, SettingDirs, Point, copied_at, copies_file, dirs_of, file_at, landed_node, landed_of, partly, progress, tree_at}
 use Rattle.dc_result.specs.Effects.{effect_at, effect_of, effect_on, effects, first_byte}
 use Rattle.dc_result.specs.Jobs.{Job, IsJob, in_run, old_at}

@@ -9,7 +9,7 @@ use Rattle.dc_path.specs.Found.{found, has_path}
 use Rattle.dc_path.specs.Order.{path_lt, is_ascending}
 use Rattle.dc_path.specs.Paths.{Names, is_under, same_path}
 use Rattle.dc_path.proofs.FoundLemmas.{found-once}
-use Rattle.dc_result.specs.Commits.{covers}
+use Rattle.dc_missing.specs.Missing.{covers}
 use Rattle.dc_result.proofs.Effecting.{behind}
 
 module _ {A : Type 0} (place : A → Names) where

@@ -10,7 +10,7 @@ use Rattle.dc_attrs.specs.Trees.{Node, is_dir, made}
 use Rattle.dc_fs.specs.declared.target.Landed.{Landed}
 use Rattle.dc_listing.specs.Listed.{Origin}
 use Rattle.dc_decide.specs.Deciding.{action_of}
-use Rattle.dc_result.specs.Commits.{covers}
+use Rattle.dc_missing.specs.Missing.{covers}
 use Rattle.dc_result.specs.During.{AreElements, Elements, IsAside, Making, Landing as AtLanding, SettingFiles, Removing, SettingDirs, Point, Progress, copied_at, file_at, landed_of, partly, progress}
 use Rattle.dc_result.specs.Effects.{effect_at, effect_on}
 use Rattle.dc_result.specs.Jobs.{Job, in_run, old_at}
@@ -32,7 +32,7 @@ untouched job done p n h gone set landed =
     still false = refl
 
 module _ (job : Job) (e : Elements) (are : AreElements job e) (p : Names) (aside : IsAside job p) where
-  stays : covers e.removals p ≡ false
+  pub stays : covers e.removals p ≡ false
   stays = by (cut job.base p) refl
     where
       by : (o : Option Names) → cut job.base p ≡ o → covers e.removals p ≡ false
@@ -49,13 +49,13 @@ module _ (job : Job) (e : Elements) (are : AreElements job e) (p : Names) (aside
       by None f = refl
       by (Some r) f = ap (λ o. option_map_or test o false) (aside r (append-cut job.base p r f)).0
 
-  no_folder : has_path e.folders p ≡ false
+  pub no_folder : has_path e.folders p ≡ false
   no_folder = are.folders p ∙ none_at (λ origin. is_dir origin.node)
 
-  no_file : has_path e.files p ≡ false
+  pub no_file : has_path e.files p ≡ false
   no_file = are.files p ∙ none_at (λ origin. not (is_dir origin.node))
 
-  none_lands : has_path (landed_of e) p ≡ false
+  pub none_lands : has_path (landed_of e) p ≡ false
   none_lands = has_found (λ (one : Landed). one.path) e.effects p ∙ ap is_some (are.effects.each p ∙ by (cut job.base p) refl)
     where
       by : (o : Option Names) → cut job.base p ≡ o → at_cut o None (effect_at job) ≡ None

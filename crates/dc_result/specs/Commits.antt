@@ -1,6 +1,6 @@
 -- What a commit is given, and the trees that its phases leave (Hadoop DistCp, `CopyCommitter`).
 use Rattle.std.specs.Prelude.{◌≡◌, ℕ, ◌-◌, Bool, true, not, ◌&&◌, List, [], ◌∷◌, ◌++◌, map, drop, Option}
-use Rattle.std.specs.List.{filter, list_all, list_any}
+use Rattle.std.specs.List.{filter, list_all}
 use Rattle.std.specs.Option.{option_map}
 use Rattle.dc_path.specs.Found.{found, has_path}
 use Rattle.dc_path.specs.Order.{is_ascending}
@@ -11,6 +11,7 @@ use Rattle.dc_fs.specs.declared.target.Mode.{Mode}
 use Rattle.dc_listing.specs.Listed.{entry_at}
 use Rattle.dc_decide.specs.Deciding.{decided}
 use Rattle.dc_decide.specs.Plans.{Decision, Decisions, item_rel}
+use Rattle.dc_missing.specs.Missing.{covers}
 use Rattle.dc_plan.specs.Planning.{item_of}
 use Rattle.dc_commit.specs.Landing.{Landing, is_landing, land_step, landing_mode}
 use Rattle.dc_commit.specs.Making.{make_steps}
@@ -65,10 +66,6 @@ abbrev pub AreLandings : Tree → Decisions → List Landing → Type 0
 AreLandings s plan landings = map whole_of landings ≡ map (whole_from s plan.base) (filter is_landing plan.items)
 
 -- ---- the paths that are removed
--- one of these paths is a front of this one
-abbrev pub covers : List Names → Names → Bool
-covers paths q = list_any (λ p. is_under p q) paths
-
 -- no path is a front of a later one
 abbrev pub are_apart : List Names → Bool
 are_apart [] = true

@@ -14,7 +14,8 @@ use Rattle.dc_commit.specs.Removals.{remove_steps}
 use Rattle.dc_commit.specs.Settings.{attrs_under, dir_steps, file_steps}
 use Rattle.dc_commit.specs.Steps.{after}
 use Rattle.dc_result.specs.Begins.{copies_dir}
-use Rattle.dc_result.specs.Commits.{AreRemovals, Commit, covers, dirs_made, files_landed, files_set, missing_gone}
+use Rattle.dc_result.specs.Commits.{AreRemovals, Commit, dirs_made, files_landed, files_set, missing_gone}
+use Rattle.dc_missing.specs.Missing.{covers}
 use Rattle.dc_result.specs.Effects.{AreEffects}
 use Rattle.dc_result.specs.Jobs.{Job, in_run, lists_file, old_at}
 use Rattle.dc_result.specs.Result.{Goes, bytes_after, copied}

@@ -1,8 +1,8 @@
 -- What the phases of a commit leave, and what lands in them.
-use Rattle.std.specs.Prelude.{◌≡◌, true, List, map, Option, Some, None}
+use Rattle.std.specs.Prelude.{◌≡◌, true, false, ◌++◌, List, map, Option, Some, None}
 use Rattle.std.specs.List.{list_all}
 use Rattle.dc_attrs.specs.Refusals.{refused_rename}
-use Rattle.dc_path.specs.Paths.{Names}
+use Rattle.dc_path.specs.Paths.{Names, is_under}
 use Rattle.dc_attrs.specs.Trees.{Node, Tree, IsTree, moved}
 use Rattle.dc_fs.specs.Views.{View}
 use Rattle.dc_commit.specs.Landing.{LandStops, Landing, is_told, land_step, landed_of}
@@ -73,6 +73,11 @@ PointsArePartly = (s : Tree) (job : Job) (commit : Commit) → IsJob s job → I
 abbrev pub OthersAreSpared : Type 0
 OthersAreSpared = (s : Tree) (job : Job) (commit : Commit) → IsJob s job → IsCommit s job commit
     → (point : Point) (p : Names) (n : Node) → job.before p ≡ Some n → IsAside job p → tree_at job commit point p ≡ Some n
+
+-- under a work path that is not under the target, at each point all at and under the target is as it was
+abbrev pub TargetIsUntouched : Type 0
+TargetIsUntouched = (s : Tree) (job : Job) (commit : Commit) → IsJob s job → IsAtomic job → is_under job.target job.base ≡ false → IsCommit s job commit
+    → (point : Point) (rest : Names) → tree_at job commit point (job.target ++ rest) ≡ job.before (job.target ++ rest)
 
 -- where a phase stops on a told tree, its first steps are done, as many as it says, and after a fault maybe one more
 abbrev pub StopsAreFronts : Type 0

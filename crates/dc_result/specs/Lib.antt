@@ -8,3 +8,5 @@ pub mod Laws
 pub mod Begins
 pub mod During
 pub mod Stops
+pub mod Planning
+pub mod Removing

@@ -1,8 +1,12 @@
-//! Worked examples of what a survey finds, and of what it refuses, in which order.
+//! Worked examples of what a survey finds, of what is settled then, and of what both refuse, in which order.
 #![tactic(auto)]
 
 #[cfg(test)]
 mod fixtures;
+#[cfg(test)]
+mod settled_texts;
+#[cfg(test)]
+mod settles;
 #[cfg(test)]
 mod surveys;
 #[cfg(test)]

@@ -95,8 +95,8 @@ fn surveyed(
     text_of(alloc, &answer)
 }
 
-// The three parts of a line.
-fn parts_of(line: &str) -> Option<(&str, &str, &str)> {
+/// The three parts of a line.
+pub(crate) fn parts_of(line: &str) -> Option<(&str, &str, &str)> {
     let (case, expected) = line.split_once(" = ")?;
     let (words, target) = case.split_once(" over ")?;
     Some((words, target, expected))
@@ -120,8 +120,8 @@ fn is_answered(
     Ok(text.as_str() == expected)
 }
 
-// The call of a kind with this number, counted from 1, fails.
-fn fails_at(alloc: Global, which: Which, nth: u64) -> Result<Fails, OutOfMemory> {
+/// The call of a kind with this number, counted from 1, fails.
+pub(crate) fn fails_at(alloc: Global, which: Which, nth: u64) -> Result<Fails, OutOfMemory> {
     let mut list = List::new(alloc);
     list.add(Fail {
         which,

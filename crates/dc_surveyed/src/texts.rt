@@ -54,9 +54,16 @@ fn text_of_rest(outcome: &Outcome) -> &'static str {
             phase: Phase::Check,
             done: 0,
         } => "target fault",
+        Outcome::TargetFault {
+            phase: Phase::Decide,
+            done: 0,
+        } => "target fault while deciding",
         Outcome::TooMany {
             what: TooManyOf::Items,
         } => "too many items",
+        Outcome::TooMany {
+            what: TooManyOf::Pieces,
+        } => "too many pieces",
         Outcome::Unbuilt => "not built",
         _ => "other",
     }
@@ -73,12 +80,13 @@ fn text_of_line(alloc: Global, outcome: &Outcome) -> Result<String, OutOfMemory>
     }
 }
 
-// A refusal.
-fn text_of_outcome(alloc: Global, outcome: &Outcome) -> Result<String, OutOfMemory> {
+/// A refusal.
+pub(crate) fn text_of_outcome(alloc: Global, outcome: &Outcome) -> Result<String, OutOfMemory> {
     match outcome {
         Outcome::NoFile { path } => with_path(alloc, "no file", path),
         Outcome::NoSource { path } => with_path(alloc, "no source", path),
         Outcome::WorkExists { path } => with_path(alloc, "work exists", path),
+        Outcome::Clash { path } => with_path(alloc, "clash", path),
         Outcome::TooLong { parent, .. } => with_path(alloc, "too long in", parent),
         Outcome::Duplicate { rel, first, second } => text_of_two(alloc, rel, first, second),
         _ => text_of_line(alloc, outcome),

@@ -6,6 +6,7 @@ pub loop-turn-init : goal.loop-turn-init
 loop-turn-init g c = record {
   still = still_start (g.T.Store.tree c.args.target.now) c.args.work.now c.args.place.now;
   kept = kept_start _;
+  failed = omega arith;
   rose = omega arith;
   looks = omega arith;
 }
@@ -14,7 +15,8 @@ pub loop-turn-preserved : goal.loop-turn-preserved
 loop-turn-preserved g c = record {
   still = try_more (g.T.Store.tree c.args.target.now) (g.T.Store.tree c.loop-turn.target) (g.T.Store.tree c.try_move.new.target) c.args.work.now c.args.place.now None c.loop-turn.invariant.still c.in-None.ensures.tree;
   kept = kept_then _ _ _ c.loop-turn.invariant.kept c.try_move.ensures.kept;
-  rose = omega (arith, c.in-None.ensures.cause, c.loop-turn.invariant.rose);
+  failed = omega (arith, c.in-None.ensures.cause.0, c.loop-turn.invariant.failed);
+  rose = omega (arith, c.in-None.ensures.cause.1, c.loop-turn.invariant.rose);
   looks = omega (arith, c.loop-turn.invariant.looks, c.try_move.ensures.looks);
 }
 

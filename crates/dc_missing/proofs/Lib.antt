@@ -1,0 +1,9 @@
+pub mod PlaceLemmas
+pub mod UnderLemmas
+pub mod MeetLemmas
+pub mod FindLemmas
+pub mod AddLemmas
+pub mod SeenLemmas
+pub mod WalkLemmas
+pub mod DirLemmas
+pub mod TopLemmas

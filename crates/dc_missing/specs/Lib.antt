@@ -1,0 +1,5 @@
+pub mod Limits
+pub mod Errors
+pub mod Missing
+pub mod Walks
+pub mod Finding
