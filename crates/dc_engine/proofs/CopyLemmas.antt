@@ -1,37 +1,35 @@
 -- What a copy leaves of a plan and makes ready, and why it may end.
-use Rattle.std.proofs.Common.{◌≡◌, ◌≢◌, ◌∙◌, ◌⊎◌, inl, inr, ⊎_elim, ℕ, zero, suc, ◌+◌, ◌-◌, ◌*◌, ◌<◌, ◌≤◌, ◌==◌, min, Bool, true, false, cond, not, ◌&&◌, ◌||◌, nat_eq, nat_le, if◌then◌else◌, List, [], ◌∷◌, ◌++◌, length, map, take, drop, filter, count_by, sum_by, All, Contains, get_or, slice_get, Option, Some, None, IfSome, IsSomeAnd, option_map, option_and_then, is_some, is_none, refl, sym, ap, ap₂, subst, arith}
+use Rattle.std.proofs.Common.{◌≡◌, ◌≢◌, ◌∙◌, ◌⊎◌, inl, inr, ⊎_elim, ℕ, zero, suc, ◌+◌, ◌-◌, ◌*◌, ◌<◌, ◌≤◌, ◌==◌, min, Bool, true, false, cond, not, ◌||◌, nat_eq, if◌then◌else◌, List, [], ◌∷◌, length, map, take, drop, count_by, All, Contains, slice_get, Option, Some, None, IfSome, IsSomeAnd, option_map, option_and_then, is_some, refl, sym, ap, ap₂, subst, arith}
 use Rattle.std.specs.Int.{div_ceil}
 use Rattle.std.specs.List.{range_with_len}
 use Rattle.std.specs.Option.{option_map_or}
-use Rattle.std.proofs.lemmas.Bool.{and_from, and_parts, not-true, cases_Bool, cond-true, cond-false, or_cases, le-leb, eqb-true, ltb-true, true≢false}
+use Rattle.std.proofs.lemmas.Bool.{and_from, and_parts, cases_Bool, cond-true, cond-false, or_cases, le-leb, eqb-true, ltb-true, true≢false}
 use Rattle.std.proofs.lemmas.Bool.Decides.{nat_tests}
 use Rattle.std.proofs.lemmas.List.{get_or-map}
-use Rattle.std.proofs.lemmas.List.Elements.{All-nil, All-cons, All-append, All-weaker, All-contains, All-get_or, All-same}
+use Rattle.std.proofs.lemmas.List.Elements.{All-nil, All-cons, All-append, All-weaker, All-same}
 use Rattle.std.proofs.lemmas.List.Sums.{sum_by-cons, length-filter}
 use Rattle.std.proofs.lemmas.Option.{slice_get_within, get_or_from_slice_get, same_Some, none-some}
 use Rattle.dc_path.specs.Paths.{Names}
 use Rattle.dc_attrs.specs.Attributes.{Attributes}
-use Rattle.dc_attrs.specs.Trees.{Node, Dir, File, Tree, IsTree, seen, bytes_of}
+use Rattle.dc_attrs.specs.Trees.{Node, Dir, File, Tree, IsTree, bytes_of}
 use Rattle.dc_attrs.specs.declared.shown.Seen.{Seen}
-use Rattle.dc_attrs.specs.declared.shown.Seen.TheVariants as seen_as
 use Rattle.dc_attrs.proofs.TreeLemmas.{seen_from-there}
-use Rattle.dc_fs.specs.Looks.{status_of}
 use Rattle.dc_listing.specs.Entries.{Entry, entry_of}
 use Rattle.dc_listing.specs.Walks.{IsShown}
 use Rattle.dc_decide.specs.Looking.{once_if}
-use Rattle.dc_decide.specs.Plans.{Decision, Decisions, IsDecision, left_out, is_folder, extends_within}
+use Rattle.dc_decide.specs.Plans.{Decision, Decisions, IsDecision, is_folder, extends_within}
 use Rattle.dc_decide.specs.declared.action.Action.{Action}
 use Rattle.dc_decide.specs.declared.action.Action.TheVariants as action
 use Rattle.dc_pieces.specs.Cutting.{is_cut, chunk_size, chunk_at, chunks, piece_to_end, file_pieces, pieces_by, pieces_of, pieces_from, plan_pieces}
 use Rattle.dc_pieces.specs.declared.piece.Piece.{Piece}
 use Rattle.dc_pieces.proofs.CutLemmas.{chunk_begins}
-use Rattle.dc_split.specs.Bundles.{times, once_below, numbers}
+use Rattle.dc_split.specs.Bundles.{once_below, numbers}
 use Rattle.dc_split.proofs.Counting.{times-numbers}
-use Rattle.dc_attempt.specs.Ranges.{range_in, is_file, told_range, lies_in}
+use Rattle.dc_attempt.specs.Ranges.{range_in, is_file, lies_in}
 use Rattle.dc_commit.specs.Landing.{is_landing, is_written}
 use Rattle.dc_join.specs.Leaving.{is_piece_of, lacks_piece, left_out_if, AreLeftOut}
 use Rattle.dc_crew.specs.Ends.{EndsCopy, is_failure}
-use Rattle.dc_crew.specs.Jobs.{Job, job_of, source_path, no_piece, piece_at, path_at, has_range}
+use Rattle.dc_crew.specs.Jobs.{job_of, source_path, no_piece, piece_at, path_at, has_range}
 use Rattle.dc_crew.specs.declared.copy.CopyError.{CopyError}
 use Rattle.dc_crew.specs.declared.copy.CopyError.TheVariants.{Fault, Halted}
 use Rattle.dc_crew.specs.declared.halts.Halt.TheVariants as halts

@@ -13,3 +13,12 @@ pub mod ToldPlans
 pub mod SettleLemmas
 pub mod CountLemmas
 pub mod CopyLemmas
+pub mod RunRefusals
+pub mod RunEnds
+pub mod RunLemmas
+pub mod RunCounts
+pub mod RunShown
+pub mod RunTold
+pub mod FinishLemmas
+pub mod HeldLemmas
+pub mod FinishTold

@@ -77,7 +77,7 @@ files_may_be_left o s t entries plan place file p = record {
 
 -- ---- items in order
 -- what holds of each item that is found holds of all
-each_found : {A : Type 0} (P : A → Type 0) (place : A → Names) (xs : List A) → is_ascending (map place xs) ≡ true → ((q : Names) (x : A) → found place xs q ≡ Some x → P x) → All P xs
+pub each_found : {A : Type 0} (P : A → Type 0) (place : A → Names) (xs : List A) → is_ascending (map place xs) ≡ true → ((q : Names) (x : A) → found place xs q ≡ Some x → P x) → All P xs
 each_found P place [] a h = All-nil P
 each_found P place (x ∷ xs) a h =
     All-cons P x xs

@@ -78,7 +78,7 @@ module _ (o : Settings) (base : Names) (items : List Entry) (source target : Opt
   free_by plan p (Some t) h = λ i. ap (list_any (clashes_in t base)) (sym p.entries) ∙ none_clash o t base plan.items i p.asked h
 
   pub settled_by : (plan : Decisions) (r : Result Settled Outcome) → IsPlanned o base items source target plan → IfOk r (IsCarriedOn o target plan) → IfOk r (IsSettled o base items source target)
-  settled_by plan (Ok settled) p h = record { plan = subst (IsPlanned o base items source target) (sym h.same) p; deletes = h.deletes; walked = h.walked; pieces = h.pieces }
+  settled_by plan (Ok settled) p h = record { plan = subst (IsPlanned o base items source target) (sym h.same) p; deletes = h.deletes; walked = h.walked; pieces = h.pieces; few = h.few }
   settled_by plan (Err e) p h = tt
 
   pub unsettled_by : (plan : Decisions) (r : Result Settled Outcome) → IsPlanned o base items source target plan → IfErr r (IsHeldUp o target plan) → IfErr r (IsUnsettled o base items source target)

@@ -1,6 +1,6 @@
 -- How the files of a plan become temporaries that are ready to land, what is left out of the plan, and why nothing is ready
 -- (Hadoop DistCp, `CopyMapper`, and `CopyCommitter.concatFileChunks`).
-use Rattle.std.specs.Prelude.{◌≡◌, ◌≢◌, ◌⊎◌, ℕ, ◌+◌, Bool, true, false, ⊤, nat_eq, ◌&&◌, List, length, Option, Some, IsSomeAnd, All, Contains, slice_get}
+use Rattle.std.specs.Prelude.{◌≡◌, ◌⊎◌, ℕ, ◌+◌, Bool, true, false, ⊤, nat_eq, ◌&&◌, List, length, Option, Some, IsSomeAnd, All, Contains, slice_get}
 use Rattle.std.specs.Option.{option_and_then}
 use Rattle.dc_path.specs.Paths.{Names}
 use Rattle.dc_attrs.specs.Trees.{Tree}

@@ -9,3 +9,6 @@ pub mod Sweeping
 pub mod Settling
 pub mod Counting
 pub mod Copying
+pub mod Running
+pub mod Finishing
+pub mod Preparing

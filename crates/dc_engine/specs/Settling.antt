@@ -194,6 +194,7 @@ pub record IsCarriedOn (o : Settings) (target : Option Tree) (plan : Decisions) 
   pub deletes : AreDeletes o target settled.plan settled.deletes
   pub walked : HasWalked o target settled.plan.base
   pub pieces : settled.pieces ≡ plan_pieces o.blocks settled.plan
+  pub few : length settled.pieces ≤ most_pieces
 
 -- from a plan on: why nothing is settled
 pub record IsHeldUp (o : Settings) (target : Option Tree) (plan : Decisions) (e : Outcome) : Type 0 where
@@ -210,6 +211,7 @@ pub record IsSettled (o : Settings) (base : Names) (items : List Entry) (source 
   pub deletes : AreDeletes o target settled.plan settled.deletes
   pub walked : HasWalked o target settled.plan.base
   pub pieces : settled.pieces ≡ plan_pieces o.blocks settled.plan
+  pub few : length settled.pieces ≤ most_pieces
 
 -- why nothing is settled
 pub record IsUnsettled (o : Settings) (base : Names) (items : List Entry) (source target : Option Tree) (e : Outcome) : Type 0 where

@@ -9,6 +9,7 @@ ghost use Rattle.dc_fs.specs.Views.{view, OnlyLooks};
 ghost use Rattle.dc_file.specs.Files.{max_bytes};
 ghost use Rattle.dc_filter.specs.Filters.{filter_from};
 ghost use Rattle.dc_kills.specs.Faults.{fault_of, IsPlanOf};
+ghost use Rattle.dc_kills.specs.Plans.{IsInOrder};
 ghost use Rattle.dc_engine.specs.Refusals.{Answers, refused_as};
 ghost use Rattle.dc_engine.specs.Inputs.{input_of, text_at, path_in, is_path_line, path_lines, paths_in, sources_in, most_sources, pattern_of, lines_in, plan_of, unless_fault, plan_in, KillsAre, is_input_fault, is_input_denied, is_input_big, is_input_decided, IsOfText, line_in, held_of, inputs_in};
 
@@ -263,6 +264,8 @@ fn unplanned(error: PlanError) -> InputError
 // The plan that a text spells.
 fn read_plan(alloc: Global, text: &[u8]) -> Result<KillPlan, InputError>
     ensures plan { IfOk result (IsPlanOf text.now) }
+    ensures stops { IfOk result (λ plan. length plan ≤ 65536) }
+    ensures ordered { IfOk result IsInOrder }
     ensures refused { IfErr result (λ e. Answers is_input_decided (Err e) (unless_fault (fault_of text.now))) }
     ensures of_text { IfErr result IsOfText }
     ensures small { IfErr result (λ e. is_input_big e ≡ false) }
@@ -282,6 +285,8 @@ fn read_kills<S: Store>(
     ensures source { OnlyLooks (view S.Store source.old) (view S.Store source.new) result is_input_fault }
     ensures looks { S.looks source.new ≤ S.looks source.old + 2 }
     ensures kills { IfOk result (λ plan. IfSome (S.tree source.old) (λ s. KillsAre options.now.kills s plan)) }
+    ensures stops { IfOk result (λ plan. length plan ≤ 65536) }
+    ensures ordered { IfOk result IsInOrder }
     ensures refused { IfErr result (λ e. IfSome (S.tree source.old) (λ s. Answers is_input_decided (Err e) (plan_in options.now s))) }
     ensures denied { IfErr result (λ e. is_input_denied e ≡ true → S.tree source.old ≡ None) }
     ensures small { IfErr result (λ e. is_input_big e ≡ false) }
@@ -304,6 +309,8 @@ pub(crate) fn read_inputs<S: Store, P: Patterns>(
     ensures looks { S.looks source.new ≤ S.looks source.old + 6 }
     ensures held { IfOk result (λ i. IfSome (S.tree source.old) (λ s. inputs_in options.now s ≡ Ok (held_of i))) }
     ensures kills { IfOk result (λ i. IfSome (S.tree source.old) (λ s. KillsAre options.now.kills s i.kills)) }
+    ensures stops { IfOk result (λ i. length i.kills ≤ 65536) }
+    ensures ordered { IfOk result (λ i. IsInOrder i.kills) }
     ensures refused { IfErr result (λ e. IfSome (S.tree source.old) (λ s. Answers is_input_decided (Err e) (inputs_in options.now s))) }
     ensures denied { IfErr result (λ e. is_input_denied e ≡ true → S.tree source.old ≡ None) }
     ensures big { IfErr result (λ e. is_input_big e ≡ true → Rose (P.refused pats.old) (P.refused pats.new)) }

@@ -11,6 +11,7 @@ ghost use Rattle.dc_listing.specs.Entries.{rel_of, fits_under};
 ghost use Rattle.dc_listing.specs.Errors.{Passes};
 ghost use Rattle.dc_listing.specs.Walks.{max_items};
 ghost use Rattle.dc_pieces.specs.Cutting.{plan_pieces};
+ghost use Rattle.dc_pieces.specs.Pieces.{most_pieces};
 ghost use Rattle.dc_missing.specs.Errors.{is_fault};
 ghost use Rattle.dc_missing.specs.Errors as missing;
 ghost use Rattle.dc_engine.specs.Outcomes.{is_changed, is_source_fault, is_target_fault, IfTooLong};
@@ -199,6 +200,7 @@ pub fn settle<S: Source, T: Target>(
     ensures deletes { IfOk result (λ settled. AreDeletes options.now (T.tree target.old) settled.plan settled.deletes) }
     ensures walked { IfOk result (λ settled. HasWalked options.now (T.tree target.old) settled.plan.base) }
     ensures pieces { IfOk result (λ settled. settled.pieces ≡ plan_pieces options.now.blocks settled.plan) }
+    ensures few { IfOk result (λ settled. length settled.pieces ≤ most_pieces) }
 
     // When each refusal comes.
     ensures kind { IfErr result (λ e. is_of_settle e ≡ true) }

@@ -7,6 +7,7 @@ ghost use Rattle.dc_path.specs.Causes.{Rose};
 ghost use Rattle.dc_path.specs.Order.{is_ascending};
 ghost use Rattle.dc_attrs.specs.Trees.{IsTree, seen};
 ghost use Rattle.dc_fs.specs.Views.{view, OnlyLooks, BothTell, BothTrees};
+ghost use Rattle.dc_kills.specs.Plans.{IsInOrder};
 ghost use Rattle.dc_listing.specs.Entries.{rel_of, fits_under};
 ghost use Rattle.dc_listing.specs.Errors.{is_fault, is_of_list, Passes, IsChanged};
 ghost use Rattle.dc_listing.specs.Errors as listing;
@@ -219,6 +220,8 @@ pub fn survey<S: Source, T: Target, P: Patterns>(
     ensures base { IfOk result (λ found. found.base ≡ base_of options.now) }
     ensures within { IfOk result (λ found. IsTrue (list_all (fits_under found.base) found.items)) }
     ensures kills { IfOk result (λ found. IfSome (S.tree source.old) (λ s. KillsAre options.now.kills s found.kills)) }
+    ensures stops { IfOk result (λ found. length found.kills ≤ 65536) }
+    ensures ordered { IfOk result (λ found. IsInOrder found.kills) }
     ensures looks { IfOk result (λ found. S.looks source.new ≤ S.looks source.old + 7 + 3 * most_sources options.now + 2 * length found.items) }
     ensures target_looks { T.looks target.new ≤ T.looks target.old + 3 }
 {
