@@ -14,7 +14,7 @@ use Rattle.dc_decide.specs.Plans.{Decision, Decisions, IsDecision, item_rel}
 use Rattle.dc_plan.specs.Planning.{IsAsked}
 use Rattle.dc_commit.specs.Landing.{all_landed}
 use Rattle.dc_ready.specs.Laws.{IsKept}
-use Rattle.dc_commit.specs.Moving.{RoseBy}
+use Rattle.dc_commit.specs.Moving.{RoseBy, with_rename_faults}
 use Rattle.dc_commit.specs.Steps.{is_fault}
 use Rattle.dc_commit.specs.declared.steps.StepError.{StepError}
 use Rattle.dc_commit.specs.declared.steps.StepError.TheVariants as step_error
@@ -196,6 +196,23 @@ module _ (o : Settings) (source source_now older old new : View) (kept : KeepsTa
       → IfErr r (EndsCommit task old new) → ShowsEnd o (outcome_in r) source source_now older new
   carried_shows task plan (Ok run) is allowed answer done ends = done_shows task (paths_out plan.items) run.outcome done answer.answer allowed
   carried_shows task plan (Err e) is allowed answer done ends = commit_shows task is e ends
+
+-- ---- desks
+desks_stay : (a b : Rest) → a ≡ b → a.desks_out ≡ b.desks_out
+desks_stay a b e = ap (λ (r : Rest). r.desks_out) e
+
+stop_desks : (task : Task) (old new : View) (e : CommitError) → CommitStops task old new e → new.rest.desks_out ≡ old.rest.desks_out
+stop_desks task old new (commit_error.Build (build_error.Dirs e)) stops = desks_stay new.rest old.rest stops.rest
+stop_desks task old new (commit_error.Build (build_error.Land e)) stops = desks_stay new.rest (all_landed stops.before old.rest) stops.landed.rest
+stop_desks task old new (commit_error.Build build_error.Sweep) stops = desks_stay new.rest (with_scratch stops.rest.0 (all_landed task.given.landings old.rest)) stops.rest.2
+stop_desks task old new (commit_error.Adjust e) stops = desks_stay new.rest (swept task.given.landings old.rest) stops.rest
+stop_desks task old new (commit_error.Move e) stops = desks_stay new.rest (with_rename_faults new.rest.rename_faults (swept task.given.landings old.rest)) stops.rest
+
+-- all that were opened have come back
+pub carried_desks : (task : Task) (older old new : View) (r : Result Run Outcome) → KeepsTarget older old → OnOk r (HasCommitted task old new) → IfErr r (EndsCommit task old new) → new.rest.desks_out ≡ older.rest.desks_out
+carried_desks task older old new (Ok run) kept done ends = ap (λ (r : Rest). r.desks_out) done.rest ∙ kept.desks_out
+carried_desks task older old new (Err e) kept done (inl h) = ap (λ (v : View). v.rest.desks_out) h.1 ∙ kept.desks_out
+carried_desks task older old new (Err e) kept done (inr h) = stop_desks task old new h.why h.stops ∙ kept.desks_out
 
 -- ---- kinds
 step_kind : (phase : Phase) (e : StepError) → is_copy phase ≡ false → ((done : ℕ) → is_commit_at phase done ≡ true) → is_of_finish (outcome_of_step e phase) ≡ true

@@ -62,16 +62,16 @@ module _ {P : Type 0} (content : P → Option (List ℕ)) (size : P → ℕ) (o 
   so_cut = subst (λ (ps : List Piece). AreCopied (crew.job_of from (is_some older.tree) old.items ps) content size old new files) cut copied
 
   pub carried_told : (r : Result Run Outcome) (source source_now : View) → IfOk r (IsRunOf new) → OnOk r (HasCommitted task ready newer) → OnOk r (LeavesDone task ready newer) → IfErr r (EndsCommit task ready newer)
-      → RoseTogether source.rest source_now.rest older.rest ready.rest (4 * (failed_of new.items - failed_of old.items)) → IfPrepared o old paths from older.tree (λ s t. Ends o s t r source source_now older newer)
-  carried_told (Ok run) source source_now answer done due ends rose =
+      → RoseTogether source.rest source_now.rest older.rest ready.rest (4 * (failed_of new.items - failed_of old.items)) → (source.steady ≡ true → older.steady ≡ true → new ≡ old) → IfPrepared o old paths from older.tree (λ s t. Ends o s t r source source_now older newer)
+  carried_told (Ok run) source source_now answer done due ends rose unfailed =
       made_told content size o old new paths files left whole kept all_ready older ready newer keeps tt run source source_now due done
       (ap commits answer.answer ∙ ended_commits (paths_out new.items)) (ap without answer.answer ∙ ended_tells (paths_out new.items))
-      answer.copied answer.dirs answer.skipped answer.failed answer.bytes_copied answer.bytes_skipped rose from older.tree refl so_cut
-  carried_told (Err e) source source_now answer done due (inl h) rose =
+      answer.copied answer.dirs answer.skipped answer.failed answer.bytes_copied answer.bytes_skipped rose unfailed from older.tree refl so_cut
+  carried_told (Err e) source source_now answer done due (inl h) rose unfailed =
       subst (λ (x : Outcome). IfPrepared o old paths from older.tree (λ s t. Ends o s t (Err x) source source_now older newer)) (sym h.0)
       (subst (λ (v : View). IfPrepared o old paths from older.tree (λ s t. Ends o s t (Err outcome.Memory) source source_now older v)) (sym h.1)
       (memory_told o old paths from source source_now older ready keeps))
-  carried_told (Err e) source source_now answer done due (inr h) rose =
+  carried_told (Err e) source source_now answer done due (inr h) rose unfailed =
       subst (λ (x : Outcome). IfPrepared o old paths from older.tree (λ s t. Ends o s t (Err x) source source_now older newer)) (sym h.named)
       (stops_told content size o old new paths files left whole kept all_ready older ready newer keeps h.why source source_now h.due from older.tree refl so_cut)
 

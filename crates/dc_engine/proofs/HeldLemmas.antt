@@ -6,7 +6,7 @@ use Rattle.dc_path.specs.Order.{is_ascending}
 use Rattle.dc_path.specs.Paths.{Names}
 use Rattle.dc_attrs.specs.Trees.{Tree}
 use Rattle.dc_fs.specs.Causes.{Rose, counted}
-use Rattle.dc_fs.specs.Rest.{Rest}
+use Rattle.dc_fs.specs.Rest.{Rest, SweepStops}
 use Rattle.dc_fs.specs.Views.{BothTrees, OnlyLooks, View}
 use Rattle.dc_kills.specs.Entries as kill
 use Rattle.dc_options.specs.Settings.{Settings}
@@ -196,6 +196,8 @@ survey_held o e source source_now target target_now kind from at phase built lon
   target_cause = at.cause.rose;
   first = λ _. at.rest;
   cleared = λ c. let no : true ≡ false = sym kind ∙ c in absurd (cc);
+  swept = (target.rest.scratch, omega arith, at.rest);
+  left = inl at.rest;
   built = built;
   too_long = long;
   refused = refused_first_told source.tree target.tree o e answers;
@@ -234,6 +236,8 @@ module _ {X : Type 0} (x : X) (o : Settings) (e : Outcome) (source between sourc
     target_cause = λ f. subst (λ (n : ℕ). Rose n target_now.faults) at.cause.still (after.cause.rose f);
     first = λ c. let no : true ≡ false = sym kind ∙ c in absurd (cc);
     cleared = λ _. since cleared;
+    swept = subst (λ (r : Rest). SweepStops r target_now.rest) at.rest after.swept;
+    left = inr (since cleared);
     built = λ u. let no : true ≡ false = sym u ∙ settle_built e kind in absurd (cc);
     too_long = long;
     refused = refused_later_told source.tree target.tree o base entries e given survey ascending

@@ -22,3 +22,4 @@ pub mod RunTold
 pub mod FinishLemmas
 pub mod HeldLemmas
 pub mod FinishTold
+pub mod GainedLemmas

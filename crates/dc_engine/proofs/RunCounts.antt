@@ -11,7 +11,6 @@ use Rattle.dc_path.specs.Order.{is_ascending}
 use Rattle.dc_path.specs.Paths.{Names}
 use Rattle.dc_path.proofs.FoundLemmas.{ascending-filter, found-filter, kept}
 use Rattle.dc_attrs.specs.Trees.{Tree, IsTree, is_dir}
-use Rattle.dc_fs.specs.Rest.{Rest}
 use Rattle.dc_fs.specs.Views.{View}
 use Rattle.dc_fs.specs.declared.target.Landed.{Landed}
 use Rattle.dc_options.specs.Settings.{Settings}
@@ -38,7 +37,7 @@ use Rattle.dc_engine.specs.Running.{AreCounts, HasCopied, IsPrepared, clashes_at
 use Rattle.dc_engine.specs.declared.outcome.Counts.{Counts}
 use Rattle.dc_engine.proofs.CountLemmas.{bytes_are_effects, copied_are_effects, failed_are_told}
 use Rattle.dc_engine.proofs.PlanLemmas.{each_found}
-use Rattle.dc_engine.proofs.RunLemmas.{copy_is, first_ready, item_kept, items_kept, left_ready, out_clashes, pairs_left, run_is}
+use Rattle.dc_engine.proofs.RunLemmas.{copy_is, first_ready, item_kept, items_kept, left_ready, only_clashes, out_clashes, pairs_left, run_is}
 
 -- ---- tests of items
 -- where a test of items agrees with one of their entries, both pass the same
@@ -161,13 +160,13 @@ module _ (o : Settings) (s t : Tree) (entries : List Entry) (old new : Decisions
   pub few_failed : failed_of new.items - failed_of old.items ≡ length (unclashed job (paths_out new.items))
   few_failed = let n = all_more (clashes_at job) old.items new.items (pairs_left old new left) out_agree in omega (arith, n)
 
-  pub copied_from : {X : Type 0} (x : X) (commit : Commit) (out : List Names) (counts : Counts) (from from_now older ready newer : View) → (o.ignore ≡ false → new ≡ old) → commit.plan ≡ new
+  pub copied_from : {X : Type 0} (x : X) (commit : Commit) (out : List Names) (counts : Counts) (from from_now older ready newer : View) → (o.ignore ≡ false → new ≡ old) → (from.steady ≡ true → older.steady ≡ true → new ≡ old) → commit.plan ≡ new
       → IsDue job commit ready newer (Ok x) → ready.rest.landed ≡ older.rest.landed
       → counts.copied ≡ copied_of new.items → counts.dirs ≡ dirs_of new.items → counts.skipped ≡ skipped_of new.items → counts.failed ≡ failed_of new.items
       → counts.bytes_copied ≡ bytes_copied_of new.items → counts.bytes_skipped ≡ bytes_skipped_of new.items → out ≡ paths_out new.items
       → RoseTogether from.rest from_now.rest older.rest ready.rest (4 * (failed_of new.items - failed_of old.items)) → newer.rest.desk_faults ≡ ready.rest.desk_faults
       → HasCopied o s t out counts from from_now older newer
-  copied_from x commit out counts from from_now older ready newer whole is due landed copied dirs skipped failed bytes_copied bytes_skipped told rose desks =
+  copied_from x commit out counts from from_now older ready newer whole unfailed is due landed copied dirs skipped failed bytes_copied bytes_skipped told rose desks =
       let r = left_ready o s t entries old new paths p source target left in
       record {
         entries = entries;
@@ -185,23 +184,5 @@ module _ (o : Settings) (s t : Tree) (entries : List Entry) (old new : Decisions
             subst (λ (k : ℕ). from.rest.fork_faults + older.rest.desk_faults + k ≤ from_now.rest.fork_faults + newer.rest.desk_faults) n
             (subst (λ (k : ℕ). from.rest.fork_faults + older.rest.desk_faults + 4 * (failed_of new.items - failed_of old.items) ≤ from_now.rest.fork_faults + k) (sym desks)
             (rose forks (subst (λ (k : ℕ). k < last) desks below)));
+        spared = λ source_steady target_steady. only_clashes o s t entries old new paths p source target left (unfailed source_steady target_steady);
       }
-
--- it is made from earlier views that keep the same
-pub copied_since : (o : Settings) (s t : Tree) (paths : List Names) (counts : Counts) (first from from_now oldest older newer : View) → first.rest ≡ from.rest → oldest.rest ≡ older.rest
-    → HasCopied o s t paths counts from from_now older newer → HasCopied o s t paths counts first from_now oldest newer
-copied_since o s t paths counts first from from_now oldest older newer source target h = record {
-  entries = h.entries;
-  job = h.job;
-  copy = h.copy;
-  ordered = h.ordered;
-  out = h.out;
-  result = h.result;
-  effects = h.effects;
-  defined = h.defined;
-  landed = h.landed ∙ ap (λ (r : Rest). r.landed ++ h.effects) (sym target);
-  counted = h.counted;
-  failures =
-      subst (λ (r : Rest). RoseTogether r from_now.rest oldest.rest newer.rest (4 * length (unclashed h.job paths))) (sym source)
-      (subst (λ (r : Rest). RoseTogether from.rest from_now.rest r newer.rest (4 * length (unclashed h.job paths))) (sym target) h.failures);
-}

@@ -245,6 +245,21 @@ module _ (o : Settings) (s t : Tree) (entries : List Entry) (old new : Decisions
   pub out_clashes : (rel : Names) (d : Decision) → found item_rel old.items rel ≡ Some d → d.out ≡ clashes_at job rel
   out_clashes rel d e = found_each (IsOutByClash t old.base) item_rel old.items rel d p.out e ∙ sym (clash_is first old first_ready.planned rel d e) ∙ sym (clash_still rel)
 
+  -- where no file was left out, it goes on without exactly what clashes
+  pub only_clashes : new ≡ old → (rel : Names) → job.out rel ≡ clashes_at job rel
+  only_clashes same rel = by (found item_rel old.items rel) refl
+    where
+      before : job.out rel ≡ first.out rel
+      before = ap (λ (plan : Decisions). is_out plan rel) same
+
+      calm : (x : Bool) → clashes_at job rel ≡ x → job.out rel ≡ false → job.out rel ≡ clashes_at job rel
+      calm true e h = let no : false ≡ true = sym h ∙ clash_out rel e in absurd (cc)
+      calm false e h = h ∙ sym e
+
+      by : (x : Option Decision) → found item_rel old.items rel ≡ x → job.out rel ≡ clashes_at job rel
+      by None e = calm (clashes_at job rel) refl (before ∙ ap (λ (x : Option Decision). option_map_or (λ (y : Decision). y.out) x false) e)
+      by (Some d) e = before ∙ ap (λ (x : Option Decision). option_map_or (λ (y : Decision). y.out) x false) e ∙ out_clashes rel d e
+
   -- a file that is left out was to be written
   pub left_written : (rel : Names) (d : Decision) → found item_rel old.items rel ≡ Some d → is_landing d ≡ true → is_written_at job rel ≡ true
   left_written rel d e l =

@@ -80,9 +80,9 @@ module _ {P : Type 0} (content : P → Option (List ℕ)) (size : P → ℕ) (o 
     made : {X : Type 0} (x : X) (out : List Names) (counts : Counts) (from from_now : View) → LeavesDue task ready newer (Ok x) → HasCommitted task ready newer
         → counts.copied ≡ copied_of new.items → counts.dirs ≡ dirs_of new.items → counts.skipped ≡ skipped_of new.items → counts.failed ≡ failed_of new.items
         → counts.bytes_copied ≡ bytes_copied_of new.items → counts.bytes_skipped ≡ bytes_skipped_of new.items → out ≡ paths_out new.items
-        → RoseTogether from.rest from_now.rest older.rest ready.rest (4 * (failed_of new.items - failed_of old.items)) → HasCopied o s t out counts from from_now older newer
-    made x out counts from from_now due done copied dirs skipped failed bytes_copied bytes_skipped told rose =
-        copied_from o s t entries old new paths p source target left x task.given out counts from from_now older ready newer whole refl
+        → RoseTogether from.rest from_now.rest older.rest ready.rest (4 * (failed_of new.items - failed_of old.items)) → (from.steady ≡ true → older.steady ≡ true → new ≡ old) → HasCopied o s t out counts from from_now older newer
+    made x out counts from from_now due done copied dirs skipped failed bytes_copied bytes_skipped told rose unfailed =
+        copied_from o s t entries old new paths p source target left x task.given out counts from from_now older ready newer whole unfailed refl
         (due s job is_commit) keeps.landed copied dirs skipped failed bytes_copied bytes_skipped told rose (ap (λ (r : Rest). r.desk_faults) done.rest)
 
   -- ---- as they are told
@@ -102,10 +102,10 @@ module _ {P : Type 0} (content : P → Option (List ℕ)) (size : P → ℕ) (o 
   pub made_told : {X : Type 0} (x : X) (run : Run) (source source_now : View) → LeavesDue task ready newer (Ok x) → HasCommitted task ready newer → commits run.outcome ≡ true → without run.outcome ≡ paths_out new.items
       → run.counts.copied ≡ copied_of new.items → run.counts.dirs ≡ dirs_of new.items → run.counts.skipped ≡ skipped_of new.items → run.counts.failed ≡ failed_of new.items
       → run.counts.bytes_copied ≡ bytes_copied_of new.items → run.counts.bytes_skipped ≡ bytes_skipped_of new.items
-      → RoseTogether source.rest source_now.rest older.rest ready.rest (4 * (failed_of new.items - failed_of old.items)) → (from tree : Option Tree) → older.tree ≡ tree
+      → RoseTogether source.rest source_now.rest older.rest ready.rest (4 * (failed_of new.items - failed_of old.items)) → (source.steady ≡ true → older.steady ≡ true → new ≡ old) → (from tree : Option Tree) → older.tree ≡ tree
       → AreCopied (crew.job_of from (is_some tree) old.items (plan_pieces o.blocks old)) content size old new files
       → IfPrepared o old paths from tree (λ s t. Ends o s t (Ok run) source source_now older newer)
-  made_told x run source source_now due done ok told copied dirs skipped failed bytes_copied bytes_skipped rose None tree is parts = tt
-  made_told x run source source_now due done ok told copied dirs skipped failed bytes_copied bytes_skipped rose (Some s) None is parts = λ v. tt
-  made_told x run source source_now due done ok told copied dirs skipped failed bytes_copied bytes_skipped rose (Some s) (Some t) is parts = λ v w entries p.
-      (ok, made s t entries p v w is parts x (without run.outcome) run.counts source source_now due done copied dirs skipped failed bytes_copied bytes_skipped told rose)
+  made_told x run source source_now due done ok told copied dirs skipped failed bytes_copied bytes_skipped rose unfailed None tree is parts = tt
+  made_told x run source source_now due done ok told copied dirs skipped failed bytes_copied bytes_skipped rose unfailed (Some s) None is parts = λ v. tt
+  made_told x run source source_now due done ok told copied dirs skipped failed bytes_copied bytes_skipped rose unfailed (Some s) (Some t) is parts = λ v w entries p.
+      (ok, made s t entries p v w is parts x (without run.outcome) run.counts source source_now due done copied dirs skipped failed bytes_copied bytes_skipped told rose unfailed)

@@ -1,10 +1,12 @@
 -- How a run ends, by the counts of both stores, from what is settled to its answer (Hadoop DistCp, `DistCp.execute`).
-use Rattle.std.specs.Prelude.{◌≡◌, ◌≢◌, ◌⊎◌, ℕ, ◌≤◌, Bool, true, false, nat_eq, ◌||◌, List, [], ◌∷◌, Result, Ok, Err}
+use Rattle.std.specs.Prelude.{◌≡◌, ◌≢◌, ◌⊎◌, ℕ, ◌≤◌, Bool, true, false, nat_eq, ◌||◌, List, [], ◌∷◌, ◌++◌, length, Result, Ok, Err}
+use Rattle.std.specs.List.{sum_by}
 use Rattle.dc_path.specs.Paths.{Names}
 use Rattle.dc_attrs.specs.Trees.{Tree}
 use Rattle.dc_fs.specs.Causes.{Rose, counted}
 use Rattle.dc_fs.specs.Rest.{Rest}
 use Rattle.dc_fs.specs.Views.{View}
+use Rattle.dc_fs.specs.declared.target.Landed.{Landed}
 use Rattle.dc_options.specs.Settings.{Settings}
 use Rattle.dc_decide.specs.Plans.{Decisions}
 use Rattle.dc_commit.specs.Moving.{RoseBy}
@@ -182,6 +184,13 @@ pub record ShowsEnd (o : Settings) (e : Outcome) (source source_now target targe
 -- at least so many more temporaries were created
 abbrev pub HasCreated : Rest → Rest → ℕ → Type 0
 HasCreated old new n = counted old.created n ≤ new.created
+
+-- what has landed gained as many files and bytes as the counters say, whatever is told
+pub record Gains (counts : Counts) (old new : List Landed) : Type 0 where
+  pub more : List Landed
+  pub landed : new ≡ old ++ more
+  pub files : length more ≡ counts.copied
+  pub bytes : sum_by (λ (one : Landed). one.bytes) more ≡ counts.bytes_copied
 
 -- ---- what is told
 -- no store that tells denies what it showed, and no digests differ

@@ -3,7 +3,7 @@ use Rattle.std.specs.Prelude.{◌≡◌, ◌⊎◌, ℕ, ◌≤◌, Bool, true, 
 use Rattle.dc_path.specs.Paths.{Names}
 use Rattle.dc_attrs.specs.Trees.{Tree}
 use Rattle.dc_fs.specs.Causes.{Rose, counted, steady_at}
-use Rattle.dc_fs.specs.Rest.{Rest}
+use Rattle.dc_fs.specs.Rest.{Rest, SweepStops}
 use Rattle.dc_fs.specs.Views.{BothTrees, View}
 use Rattle.dc_kills.specs.Entries as kill
 use Rattle.dc_kills.specs.Plans.{IsInOrder}
@@ -57,6 +57,8 @@ pub record IsHeldBack (o : Settings) (e : Outcome) (source source_now target tar
   pub target_cause : is_target_fault e ≡ true → Rose target.faults target_now.faults
   pub first : is_of_settle e ≡ false → target_now.rest ≡ target.rest
   pub cleared : is_of_survey e ≡ false → (target_now.rest.scratch ≡ 0) ⊎ Rose target.faults target_now.faults
+  pub swept : SweepStops target.rest target_now.rest
+  pub left : (target_now.rest ≡ target.rest) ⊎ ((target_now.rest.scratch ≡ 0) ⊎ Rose target.faults target_now.faults)
   pub built : is_unbuilt e ≡ true → asks_report o.sync ≡ true
   pub too_long : IfTooLong e Passes
   pub refused : is_decided e ≡ true → BothTrees source.tree target.tree (λ s t. IsRefused o s t e)

@@ -235,7 +235,7 @@ unclashed job paths = filter (λ path. not (clashes_at job path)) paths
 
 -- The copy is made, without these paths, which are told in path order: its result stands, each listed file that is not skipped
 -- has landed once and nothing else has, and the counters are exact. For each file besides what clashes that it went on without,
--- forks and desks failed four times.
+-- forks and desks failed four times. Where neither store ever fails, it went on without exactly what clashes.
 pub record HasCopied (o : Settings) (s t : Tree) (paths : List Names) (counts : Counts) (source source_now target target_now : View) : Type 0 where
   pub entries : List Entry
   pub job : Job
@@ -248,6 +248,7 @@ pub record HasCopied (o : Settings) (s t : Tree) (paths : List Names) (counts : 
   pub landed : target_now.rest.landed ≡ target.rest.landed ++ effects
   pub counted : AreCounts job entries effects paths counts
   pub failures : RoseTogether source.rest source_now.rest target.rest target_now.rest (4 * length (unclashed job paths))
+  pub spared : source.steady ≡ true → target.steady ≡ true → (rel : Names) → job.out rel ≡ clashes_at job rel
 
 -- ---- a run that is refused
 -- all is listed, in path order, and then an item clashes, or the walk for `-delete` stops, or there are too many pieces

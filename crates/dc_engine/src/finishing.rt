@@ -3,7 +3,7 @@
 
 ghost use Rattle.std.specs.Prelude.{◌≡◌, ◌⊎◌, ◌+◌, ◌≤◌, true, false, length, count_by, All, IfOk, IfErr, OnOk};
 ghost use Rattle.std.specs.List.{list_all, sum_by};
-ghost use Rattle.dc_fs.specs.Causes.{Rose, steady_at};
+ghost use Rattle.dc_fs.specs.Causes.{Rose, raised, steady_at};
 ghost use Rattle.dc_fs.specs.Views.{view, BothTrees};
 ghost use Rattle.dc_kills.specs.Plans.{IsInOrder};
 ghost use Rattle.dc_listing.specs.Entries.{Entry};
@@ -16,7 +16,8 @@ ghost use Rattle.dc_ready.specs.Laws.{IsKept};
 ghost use Rattle.dc_engine.specs.Committing.{HasCommitted, task_of};
 ghost use Rattle.dc_engine.specs.Counting.{paths_out};
 ghost use Rattle.dc_engine.specs.Copying.{IfCopyFailed, IsToWrite};
-ghost use Rattle.dc_engine.specs.Finishing.{ended_without, IsRunOf, EndsCommit, LeavesDone, ShowsEnd, outcome_in, is_of_finish, HasCreated, IsSure, HasEnded};
+ghost use Rattle.dc_engine.specs.Finishing.{ended_without, IsRunOf, EndsCommit, LeavesDone, ShowsEnd, outcome_in, is_of_finish, HasCreated, Gains, IsSure, HasEnded};
+ghost use Rattle.dc_engine.specs.Outcomes.{is_target_fault};
 ghost use Rattle.dc_engine.specs.Running.{IsPrepared, Ends, commits};
 
 use crate::committing::commit;
@@ -130,6 +131,7 @@ fn carry_out<S: Source, T: Target, R: Threads + Sync>(
     ensures source { TakesForksBack 0 (view S.Store source.old) (view S.Store source.new) }
     ensures later { T.faults target.old ≤ T.faults target.new }
     ensures calm { steady_at (T.steady target.new) (T.faults target.new) ≡ steady_at (T.steady target.old) (T.faults target.old) }
+    ensures desks { (T.rest target.new).desks_out ≡ (T.rest target.old).desks_out }
     ensures moves { IfOk result (λ run. run.moves ≡ 0) }
     ensures commits { IfOk result (λ run. commits run.outcome ≡ true) }
     ensures uncommitted { IfErr result (λ e. commits e ≡ false) }
@@ -139,6 +141,7 @@ fn carry_out<S: Source, T: Target, R: Threads + Sync>(
         StandStill (S.rest source.old) (S.rest source.new) (T.rest target.old) (T.rest target.new) →
         HasCreated (T.rest target.old) (T.rest target.new)
         (length pieces.now + count_by (is_reached_entry kills.now pieces.now options.now.buffer) kills.now)) }
+    ensures gained { IfOk result (λ run. Gains run.counts (T.rest target.old).landed (T.rest target.new).landed) }
     ensures named { IfErr result (λ e. IfCopyFailed e (IsToWrite plan.old)) }
     ensures told { BothTrees (S.tree source.old) (T.tree target.old) (λ s t. (entries : List Entry) → IsPrepared options.now s t entries plan.old deletes.now
         → Ends options.now s t result (view S.Store source.old) (view S.Store source.new) (view T.Store target.old) (view T.Store target.new)) }
@@ -179,12 +182,15 @@ pub fn finish<S: Source, T: Target, R: Threads + Sync>(
     ensures source { TakesForksBack 0 (view S.Store source.old) (view S.Store source.new) }
     ensures later { T.faults target.old ≤ T.faults target.new }
     ensures calm { steady_at (T.steady target.new) (T.faults target.new) ≡ steady_at (T.steady target.old) (T.faults target.old) }
+    ensures desks { (T.rest target.new).desks_out ≡ (T.rest target.old).desks_out }
     ensures cleared { ((T.rest target.new).scratch ≡ 0) ⊎ Rose (T.faults target.old) (T.faults target.new) }
+    ensures emptied { is_target_fault result.outcome ≡ true → ((T.rest target.new).scratch ≡ 0) ⊎ Rose (raised (T.faults target.old)) (T.faults target.new) }
     ensures shows { ShowsEnd options.now result.outcome (view S.Store source.old) (view S.Store source.new) (view T.Store target.old) (view T.Store target.new) }
     ensures created { commits result.outcome ≡ true →
         StandStill (S.rest source.old) (S.rest source.new) (T.rest target.old) (T.rest target.new) →
         HasCreated (T.rest target.old) (T.rest target.new)
         (length settled.pieces + count_by (is_reached_entry kills.now settled.pieces options.now.buffer) kills.now) }
+    ensures gained { commits result.outcome ≡ true → Gains result.counts (T.rest target.old).landed (T.rest target.new).landed }
 
     // What is answered.
     ensures kind { is_of_finish result.outcome ≡ true }

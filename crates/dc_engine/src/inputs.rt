@@ -2,7 +2,7 @@
 #![tactic(auto)]
 
 ghost use Rattle.std.specs.Prelude.{◌≡◌, ◌++◌, ◌+◌, ◌∷◌, [], ◌<◌, ◌≤◌, ◌^◌, true, false, length, filter_map, IfOk, IfErr, IfSome, OnOk, Ok, Err};
-ghost use Rattle.std.specs.Option.{option_copied};
+ghost use Rattle.std.specs.Option.{is_some, option_copied};
 ghost use Rattle.dc_path.specs.Causes.{Rose};
 ghost use Rattle.dc_path.specs.Lines.{lines_of};
 ghost use Rattle.dc_fs.specs.Views.{view, OnlyLooks};
@@ -241,6 +241,7 @@ fn read_filter<S: Store, P: Patterns>(
     ensures lines { IfSome (S.tree source.old) (λ s. Answers is_input_decided result (lines_in options.now s)) }
     ensures denied { IfErr result (λ e. is_input_denied e ≡ true → S.tree source.old ≡ None) }
     ensures big { IfErr result (λ e. is_input_big e ≡ true → Rose (P.refused pats.old) (P.refused pats.new)) }
+    ensures filtered { IfErr result (λ e. is_input_big e ≡ true → is_some options.now.filters ≡ true) }
     ensures later { P.refused pats.old ≤ P.refused pats.new }
 {
     let Some(path) = options.filters() else {
@@ -314,6 +315,7 @@ pub(crate) fn read_inputs<S: Store, P: Patterns>(
     ensures refused { IfErr result (λ e. IfSome (S.tree source.old) (λ s. Answers is_input_decided (Err e) (inputs_in options.now s))) }
     ensures denied { IfErr result (λ e. is_input_denied e ≡ true → S.tree source.old ≡ None) }
     ensures big { IfErr result (λ e. is_input_big e ≡ true → Rose (P.refused pats.old) (P.refused pats.new)) }
+    ensures filtered { IfErr result (λ e. is_input_big e ≡ true → is_some options.now.filters ≡ true) }
     ensures later { P.refused pats.old ≤ P.refused pats.new }
     ensures few { IfOk result (λ i. length i.sources ≤ most_sources options.now) }
 {

@@ -2,13 +2,15 @@
 #![tactic(auto)]
 
 ghost use Rattle.std.specs.Prelude.{◌≡◌, ◌⊎◌, ◌≤◌, Err, true, false, IfOk, IfErr, OnOk};
-ghost use Rattle.dc_fs.specs.Causes.{Rose, steady_at};
+ghost use Rattle.std.specs.Option.{is_some};
+ghost use Rattle.dc_fs.specs.Causes.{Rose, raised, steady_at};
+ghost use Rattle.dc_fs.specs.Rest.{SweepStops};
 ghost use Rattle.dc_fs.specs.Views.{view, BothTrees};
 ghost use Rattle.dc_listing.specs.Errors.{Passes};
 ghost use Rattle.dc_crew.specs.Slots.{StandStill};
 ghost use Rattle.dc_engine.specs.Copying.{IfCopyFailed};
-ghost use Rattle.dc_engine.specs.Finishing.{HasEnded, ShowsEnd, is_of_finish};
-ghost use Rattle.dc_engine.specs.Outcomes.{IfTooLong, is_big_pattern, is_decided, is_of_survey, is_source_fault, is_unbuilt};
+ghost use Rattle.dc_engine.specs.Finishing.{Gains, HasEnded, ShowsEnd, is_of_finish};
+ghost use Rattle.dc_engine.specs.Outcomes.{IfTooLong, is_big_pattern, is_decided, is_of_survey, is_source_fault, is_target_fault, is_unbuilt};
 ghost use Rattle.dc_engine.specs.Preparing.{AreWaves, IsHeldBack, IsPreparedFor, KeepsSource, is_of_run};
 ghost use Rattle.dc_engine.specs.Running.{IsRefused, IsToCopy, commits};
 ghost use Rattle.dc_engine.specs.Settling.{is_of_settle};
@@ -46,6 +48,7 @@ fn prepare<S: Source, T: Target, P: Patterns>(
     ensures held { IfErr result (λ e. IsHeldBack options.now e (view S.Store source.old) (view S.Store source.new) (view T.Store target.old) (view T.Store target.new)) }
     ensures patterns { P.refused pats.old ≤ P.refused pats.new }
     ensures big { IfErr result (λ e. is_big_pattern e ≡ true → Rose (P.refused pats.old) (P.refused pats.new)) }
+    ensures filtered { IfErr result (λ e. is_big_pattern e ≡ true → is_some options.now.filters ≡ true) }
     ensures unbuilt { asks_report options.now.sync ≡ true → result ≡ Err Outcome.Unbuilt }
 {
     let Surveyed { base, items, kills } = survey(alloc, options, source, target, pats)?;
@@ -74,14 +77,20 @@ pub fn run<S: Source, T: Target, P: Patterns, R: Threads + Sync>(
     ensures source_still { commits result.outcome ≡ true → S.faults source.new ≡ S.faults source.old }
     ensures later { T.faults target.old ≤ T.faults target.new }
     ensures calm { steady_at (T.steady target.new) (T.faults target.new) ≡ steady_at (T.steady target.old) (T.faults target.old) }
+    ensures desks { (T.rest target.new).desks_out ≡ (T.rest target.old).desks_out }
     ensures shows { ShowsEnd options.now result.outcome (view S.Store source.old) (view S.Store source.new) (view T.Store target.old) (view T.Store target.new) }
     ensures cleared { is_of_survey result.outcome ≡ false → ((T.rest target.new).scratch ≡ 0) ⊎ Rose (T.faults target.old) (T.faults target.new) }
+    ensures emptied { is_of_finish result.outcome ≡ true → is_target_fault result.outcome ≡ true → ((T.rest target.new).scratch ≡ 0) ⊎ Rose (raised (T.faults target.old)) (T.faults target.new) }
+    ensures left { commits result.outcome ≡ false → (T.rest target.new ≡ T.rest target.old) ⊎ (((T.rest target.new).scratch ≡ 0) ⊎ Rose (T.faults target.old) (T.faults target.new)) }
+    ensures gained { commits result.outcome ≡ true → Gains result.counts (T.rest target.old).landed (T.rest target.new).landed }
     ensures patterns { P.refused pats.old ≤ P.refused pats.new }
     ensures big { is_big_pattern result.outcome ≡ true → Rose (P.refused pats.old) (P.refused pats.new) }
+    ensures filtered { is_big_pattern result.outcome ≡ true → is_some options.now.filters ≡ true }
 
-    // What is answered. What only the survey answers leaves the target as it was.
+    // What is answered. What only the survey answers leaves the target as it was; what else comes before the copy leaves all but temporaries.
     ensures kind { is_of_run result.outcome ≡ true }
     ensures first { is_of_settle result.outcome ≡ false → is_of_finish result.outcome ≡ false → T.rest target.new ≡ T.rest target.old }
+    ensures unchanged { is_of_finish result.outcome ≡ false → SweepStops (T.rest target.old) (T.rest target.new) }
     ensures unbuilt { asks_report options.now.sync ≡ true → result.outcome ≡ Outcome.Unbuilt }
     ensures built { is_unbuilt result.outcome ≡ true → asks_report options.now.sync ≡ true }
     ensures too_long { IfTooLong result.outcome Passes }

@@ -3,6 +3,7 @@
 
 ghost use Rattle.std.specs.Prelude.{◌≡◌, ◌+◌, ◌*◌, ◌≤◌, ◌↔◌, [], Ok, Err, IfOk, IfErr, IfSome, IsErrOf, IsTrue, true, false, map, length, None};
 ghost use Rattle.std.specs.List.{list_all};
+ghost use Rattle.std.specs.Option.{is_some};
 ghost use Rattle.dc_path.specs.Causes.{Rose};
 ghost use Rattle.dc_path.specs.Order.{is_ascending};
 ghost use Rattle.dc_attrs.specs.Trees.{IsTree, seen};
@@ -208,6 +209,7 @@ pub fn survey<S: Source, T: Target, P: Patterns>(
     ensures target { OnlyLooks (view T.Store target.old) (view T.Store target.new) result is_target_fault }
     ensures patterns { P.refused pats.old ≤ P.refused pats.new }
     ensures big { IfErr result (λ e. is_big_pattern e ≡ true → Rose (P.refused pats.old) (P.refused pats.new)) }
+    ensures filtered { IfErr result (λ e. is_big_pattern e ≡ true → is_some options.now.filters ≡ true) }
     ensures kind { IfErr result (λ e. is_of_survey e ≡ true) }
     ensures phase { IfErr result (λ e. is_target_fault e ≡ true → e ≡ Outcome.TargetFault Phase.Check 0) }
     ensures unbuilt { asks_report options.now.sync ≡ true → result ≡ Err Outcome.Unbuilt }

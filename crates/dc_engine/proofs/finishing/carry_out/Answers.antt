@@ -4,8 +4,9 @@ use Rattle.dc_fs.specs.Views.{view}
 use Rattle.dc_decide.specs.Plans.{Decisions}
 use Rattle.dc_engine.specs.Committing.{task_of}
 use Rattle.dc_engine.specs.Counting.{paths_out}
-use Rattle.dc_engine.proofs.FinishLemmas.{carried_kind, carried_shows, none_out}
+use Rattle.dc_engine.proofs.FinishLemmas.{carried_desks, carried_kind, carried_shows, none_out}
 use Rattle.dc_engine.proofs.FinishTold.{carried_sure, carried_told, told_sure}
+use Rattle.dc_engine.proofs.GainedLemmas.{carried_gained}
 use Rattle.dc_engine.proofs.RunShown.{copy_sure}
 use Rattle.dc_engine.proofs.RunTold.{copy_ends_told}
 use Rattle.dc_engine.proofs.finishing.carry_out.Goals as goal
@@ -47,7 +48,7 @@ returns-clause-told g c =
     (view g.T.Store c.args.target.now) (view g.T.Store c.copy.new.target) (view g.T.Store c.commit_copied.new.target) c.copy.ensures.target
     (g.S.Store.tree c.args.source.now) c.args.pieces.now c.requires.pieces c.in_ok-files.ensures.copied
     c.commit_copied.result (view g.S.Store c.args.source.now) (view g.S.Store c.copy.new.source)
-    c.commit_copied.ensures.answer c.commit_copied.ensures.done c.commit_copied.ensures.due c.commit_copied.ensures.ends c.in_ok-files.ensures.failures
+    c.commit_copied.ensures.answer c.commit_copied.ensures.done c.commit_copied.ensures.due c.commit_copied.ensures.ends c.in_ok-files.ensures.failures c.in_ok-files.ensures.spared
 
 pub returns-clause-sure : goal.returns-clause-sure
 returns-clause-sure g c =
@@ -56,3 +57,17 @@ returns-clause-sure g c =
     (view g.T.Store c.args.target.now) (view g.T.Store c.copy.new.target) (view g.T.Store c.commit_copied.new.target) c.copy.ensures.target
     (g.S.Store.tree c.args.source.now) c.args.pieces.now c.requires.pieces c.in_ok-files.ensures.copied
     c.commit_copied.result c.commit_copied.ensures.answer c.commit_copied.ensures.ends
+
+pub returns-clause-desks : goal.returns-clause-desks
+returns-clause-desks g c =
+    carried_desks (task_of g.T.Desk.Temp.Held.content g.T.Desk.Temp.Held.size c.args.options.now c.args.options.now.target c.copy.new.plan c.in_ok-files.files c.args.deletes.now)
+    (view g.T.Store c.args.target.now) (view g.T.Store c.copy.new.target) (view g.T.Store c.commit_copied.new.target) c.commit_copied.result
+    c.copy.ensures.target c.commit_copied.ensures.done c.commit_copied.ensures.ends
+
+pub returns-clause-gained : goal.returns-clause-gained
+returns-clause-gained g c =
+    carried_gained g.T.Desk.Temp.Held.content g.T.Desk.Temp.Held.size c.args.options.now c.args.plan.now c.copy.new.plan c.args.deletes.now c.in_ok-files.files
+    c.read_items.ensures c.in_ok-files.ensures.ready
+    (view g.T.Store c.args.target.now) (view g.T.Store c.copy.new.target) (view g.T.Store c.commit_copied.new.target) c.copy.ensures.target
+    (g.S.Store.tree c.args.source.now) _ c.args.pieces.now c.requires.pieces c.in_ok-files.ensures.copied
+    c.commit_copied.result c.commit_copied.ensures.answer c.commit_copied.ensures.done
