@@ -13,10 +13,11 @@ use Rattle.dc_path.specs.Reading.{path_from}
 use Rattle.dc_path.proofs.LawProofs.{text_reads_back}
 use Rattle.dc_attrs.specs.Attributes.{default_file, default_dir}
 use Rattle.dc_attrs.specs.Trees.{Dir, File, Tree}
+use Rattle.dc_options.specs.Reading.{options}
+use Rattle.dc_plain.specs.Laws.{WordsArePlain}
+use Rattle.dc_plain.specs.Plain.{plain}
 use Rattle.dc_cli.specs.Drills.{drill_source, drill_target, drill_tree, dir_path, file_path, file_bytes, file_or}
 use Rattle.dc_cli.specs.DrillSteps.{way_tree, with_dirs, with_files}
-use Rattle.dc_cli.specs.Words.{Asks}
-use Rattle.dc_path.specs.Words.{is_dashed}
 
 -- ---- paths
 ascii_name : (bs : List ℕ) → IsAscii bs → is_utf8 bs ≡ true
@@ -44,11 +45,9 @@ source_reads = text_reads_back drill_source (record { named = rw (src_name, snap
 target_reads : path_from (codes "/dst") ≡ Ok drill_target
 target_reads = text_reads_back drill_target (record { named = rw dst_name refl; few = omega arith; short = omega arith })
 
-asks_two : (a b : List ℕ) (p q : Names) → is_dashed a ≡ false → is_dashed b ≡ false → path_from a ≡ Ok p → path_from b ≡ Ok q → Asks (a ∷ b ∷ []) p q
-asks_two a b p q i j e f = rw (i, j, e, f) refl
-
-pub drill_asks : Asks (codes "/src/.snapshot/s1" ∷ codes "/dst" ∷ []) drill_source drill_target
-drill_asks = asks_two (codes "/src/.snapshot/s1") (codes "/dst") drill_source drill_target refl refl source_reads target_reads
+-- the words of a drill ask for a plain copy
+pub drill_asks : WordsArePlain → options (codes "/src/.snapshot/s1" ∷ codes "/dst" ∷ []) ≡ Ok (plain drill_source drill_target)
+drill_asks law = law (codes "/src/.snapshot/s1") (codes "/dst") drill_source drill_target source_reads target_reads
 
 -- ---- directories
 pub dirs_more : (f : ℕ → Names) (n : ℕ) → map f (range_with_len 0 (suc n)) ≡ map f (range_with_len 0 n) ++ f n ∷ []

@@ -1,23 +1,5 @@
-pub mod CopyLemmas
-pub mod ReadableLemmas
-pub mod CommitLemmas
-pub mod MakeLemmas
-pub mod LandLemmas
-pub mod ListingLemmas
-pub mod ListingStops
-pub mod OutputLemmas
-pub mod EffectLemmas
-pub mod UniqueLemmas
-pub mod SurveyLemmas
-pub mod ResultLemmas
-pub mod RunLemmas
-pub mod WordLemmas
-pub mod CauseLemmas
-pub mod VerdictLemmas
+pub mod TopLemmas
+pub mod PlainEnds
 pub mod DrillLemmas
-pub mod DenialLemmas
-pub mod StopLemmas
-pub mod PartlyLemmas
-mod SizeLemmas
-mod CalmLemmas
-mod DrillListing
+pub mod DrillListing
+pub mod DrillEnds

@@ -6,24 +6,26 @@ ghost use Rattle.std.specs.List.{range_with_len};
 ghost use Rattle.std.specs.Fmt.{decimal};
 ghost use Rattle.std.specs.Option.{option_map};
 ghost use Rattle.dc_path.specs.Reading.{path_from};
-ghost use Rattle.dc_attrs.specs.Attributes.{default_file, default_dir};
-ghost use Rattle.dc_attrs.specs.Trees.{Dir, File, with_node};
+ghost use Rattle.dc_attrs.specs.Attributes.{default_file};
+ghost use Rattle.dc_attrs.specs.Trees.{File, bare, with_node};
 ghost use Rattle.dc_fs.specs.Causes.{Rose};
 ghost use Rattle.dc_tree.specs.Arena.{tree_of};
-ghost use Rattle.dc_cli.specs.Checks.{is_committed};
+ghost use Rattle.dc_engine.specs.Running.{commits};
+ghost use Rattle.dc_plain.specs.Left.{AreCountsOf};
+ghost use Rattle.dc_output.specs.Output.{lines};
 ghost use Rattle.dc_cli.specs.Drills.{dir_path, drill_source, drill_target, drill_tree, file_bytes, file_path};
 ghost use Rattle.dc_cli.specs.DrillSteps.{way_tree, with_dir, with_dirs, with_files};
-ghost use Rattle.dc_cli.specs.Effects.{AreCounts, none_counted};
-ghost use Rattle.dc_cli.specs.Listed.{listed};
-ghost use Rattle.dc_cli.specs.Output.{lines};
-ghost use Rattle.dc_cli.specs.declared.outcome.Counts.{Counts};
-ghost use Rattle.dc_cli.specs.declared.outcome.Outcome.{Outcome};
+ghost use Rattle.dc_engine.specs.declared.outcome.Counts.{Counts};
 
-use crate::{Answer, Outcome, distcp, print_no_memory};
+use crate::distcp;
 use dc_attrs::Attrs;
+use dc_engine::{Counts, Outcome};
+use dc_filter::RegexPatterns;
 use dc_fs::Sink;
 use dc_memfs::{Fails, MemSource, MemTarget};
+use dc_output::{Answer, print_no_memory};
 use dc_path::{List, Name, OutOfMemory, Path, Text};
+use dc_plain::laws::plain_laws;
 use dc_tree::MemTree;
 use std::alloc::Global;
 use std::thread::Threads;
@@ -213,7 +215,7 @@ struct Setup {
 // Makes ready what the run needs.
 fn set_up(alloc: Global, seed: u64, count: u32) -> Result<Setup, OutOfMemory>
     ensures source { IfOk result (λ setup. tree_of setup.source ≡ drill_tree seed count) }
-    ensures target { IfOk result (λ setup. tree_of setup.target ≡ with_node (λ _. None) [] (Dir default_dir)) }
+    ensures target { IfOk result (λ setup. tree_of setup.target ≡ bare) }
     ensures words { IfOk result (λ setup. setup.words ≡ codes "/src/.snapshot/s1" ∷ codes "/dst" ∷ []) }
 {
     Ok(Setup {
@@ -226,10 +228,10 @@ fn set_up(alloc: Global, seed: u64, count: u32) -> Result<Setup, OutOfMemory>
 // Runs over stores in memory, and prints.
 fn run_setup<R: Threads + Sync, O: Sink>(rt: &R, alloc: Global, setup: Setup, out: &mut O) -> Answer
     requires { setup.words ≡ codes "/src/.snapshot/s1" ∷ codes "/dst" ∷ [] }
-    ensures ended { (seed count : ℕ) → count ≤ 200000 → tree_of setup.source ≡ drill_tree seed count → tree_of setup.target ≡ with_node (λ _. None) [] (Dir default_dir) → (result.outcome ≡ Outcome.Committed) ⊎ (result.outcome ≡ Outcome.Memory) }
-    ensures counts { result.outcome ≡ Outcome.Committed → AreCounts (listed (tree_of setup.source) drill_source) drill_target result.counts }
+    ensures ended { (seed count : ℕ) → count ≤ 200000 → tree_of setup.source ≡ drill_tree seed count → tree_of setup.target ≡ bare → (result.outcome ≡ Outcome.Committed) ⊎ (result.outcome ≡ Outcome.Memory) }
+    ensures counts { (seed count : ℕ) → tree_of setup.source ≡ drill_tree seed count → tree_of setup.target ≡ bare → result.outcome ≡ Outcome.Committed → AreCountsOf (drill_tree seed count) drill_source drill_target result.counts }
     ensures printed { result.printed ≡ true → O.bytes out.new ≡ option_map (λ old. old ++ lines result.outcome result.counts) (O.bytes out.old) }
-    ensures no_counts { is_committed result.outcome ≡ false → result.counts ≡ none_counted }
+    ensures no_counts { commits result.outcome ≡ false → result.counts ≡ Counts.NONE }
     ensures later { O.faults out.old ≤ O.faults out.new }
     ensures cause { result.printed ≡ false → Rose (O.faults out.old) (O.faults out.new) }
 {
@@ -242,7 +244,38 @@ fn run_setup<R: Threads + Sync, O: Sink>(rt: &R, alloc: Global, setup: Setup, ou
     } = setup;
     let mut source = MemSource::new(&tree, &own, &forks);
     let mut target = MemTarget::new(alloc, empty, Fails::none(alloc), Fails::none(alloc));
-    distcp(rt, alloc, words.as_slice(), &mut source, &mut target, out)
+    let mut pats = RegexPatterns::new(None);
+    plain_laws();
+    distcp(
+        rt,
+        alloc,
+        words.as_slice(),
+        &mut source,
+        &mut target,
+        &mut pats,
+        out,
+    )
+}
+
+// Makes ready what a run needs, runs, and prints.
+fn run_drill<R: Threads + Sync, O: Sink>(
+    rt: &R,
+    alloc: Global,
+    seed: u64,
+    count: u32,
+    out: &mut O,
+) -> Answer
+    ensures ended { count ≤ 200000 → (result.outcome ≡ Outcome.Committed) ⊎ (result.outcome ≡ Outcome.Memory) }
+    ensures counts { result.outcome ≡ Outcome.Committed → AreCountsOf (drill_tree seed count) drill_source drill_target result.counts }
+    ensures printed { result.printed ≡ true → O.bytes out.new ≡ option_map (λ old. old ++ lines result.outcome result.counts) (O.bytes out.old) }
+    ensures no_counts { commits result.outcome ≡ false → result.counts ≡ Counts.NONE }
+    ensures later { O.faults out.old ≤ O.faults out.new }
+    ensures cause { result.printed ≡ false → Rose (O.faults out.old) (O.faults out.new) }
+{
+    match set_up(alloc, seed, count) {
+        Ok(setup) => run_setup(rt, alloc, setup, out),
+        Err(OutOfMemory) => print_no_memory(out),
+    }
 }
 
 // What a run's answer makes of a drill.
@@ -261,6 +294,24 @@ fn drilled_by(answer: &Answer) -> Drilled
     }
 }
 
+// Drills a number of files that is within the limits.
+fn drill_within<R: Threads + Sync, O: Sink>(
+    rt: &R,
+    alloc: Global,
+    seed: u64,
+    count: u32,
+    out: &mut O,
+) -> Drilled
+    ensures within { result ≢ Drilled.BadCount }
+    ensures reached { result ≡ Drilled.Reached → (counts : Counts) × AreCountsOf (drill_tree seed count) drill_source drill_target counts × (O.bytes out.new ≡ option_map (λ old. old ++ lines Outcome.Committed counts) (O.bytes out.old)) }
+    ensures never { count ≤ 200000 → result ≢ Drilled.NotReached }
+    ensures memory { result ≡ Drilled.Memory → O.bytes out.new ≡ option_map (λ old. old ++ lines Outcome.Memory Counts.NONE) (O.bytes out.old) }
+    ensures unprinted { result ≡ Drilled.Unprinted → Rose (O.faults out.old) (O.faults out.new) }
+    ensures later { O.faults out.old ≤ O.faults out.new }
+{
+    drilled_by(&run_drill(rt, alloc, seed, count, out))
+}
+
 /// Copies a directory of `count` small files between two stores in memory, and prints what the run prints.
 ///
 /// The files are spread over four directories at most. The seed decides their lengths, of at most 99 bytes, and their
@@ -277,9 +328,9 @@ pub fn drill<R: Threads + Sync, O: Sink>(
 
     // A drill that is reached has printed the counters of its files and directories. Its stores never fail, so only the sink and
     // want of memory keep it from that.
-    ensures reached { result ≡ Drilled.Reached → (counts : Counts) × AreCounts (listed (drill_tree seed count) drill_source) drill_target counts × (O.bytes out.new ≡ option_map (λ old. old ++ lines Outcome.Committed counts) (O.bytes out.old)) }
+    ensures reached { result ≡ Drilled.Reached → (counts : Counts) × AreCountsOf (drill_tree seed count) drill_source drill_target counts × (O.bytes out.new ≡ option_map (λ old. old ++ lines Outcome.Committed counts) (O.bytes out.old)) }
     ensures never { result ≢ Drilled.NotReached }
-    ensures memory { result ≡ Drilled.Memory → O.bytes out.new ≡ option_map (λ old. old ++ lines Outcome.Memory none_counted) (O.bytes out.old) }
+    ensures memory { result ≡ Drilled.Memory → O.bytes out.new ≡ option_map (λ old. old ++ lines Outcome.Memory Counts.NONE) (O.bytes out.old) }
 
     ensures unprinted { result ≡ Drilled.Unprinted → Rose (O.faults out.old) (O.faults out.new) }
     ensures later { O.faults out.old ≤ O.faults out.new }
@@ -287,9 +338,5 @@ pub fn drill<R: Threads + Sync, O: Sink>(
     if !(MIN_COUNT..=MAX_COUNT).contains(&count) {
         return Drilled::BadCount;
     }
-    let answer = match set_up(alloc, seed, count) {
-        Ok(setup) => run_setup(rt, alloc, setup, out),
-        Err(OutOfMemory) => print_no_memory(out),
-    };
-    drilled_by(&answer)
+    drill_within(rt, alloc, seed, count, out)
 }

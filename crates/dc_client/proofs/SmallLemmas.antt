@@ -1,45 +1,42 @@
 -- What a small copy leaves, lands, counts and prints, and that nothing refuses it.
-use Rattle.std.proofs.Common.{◌≡◌, ℕ, ◌+◌, ◌<◌, Bool, true, false, cond, ◌||◌, ◌⊎◌, inl, inr, List, [], ◌∷◌, ◌++◌, length, codes, Option, Some, None, Result, Ok, Err, IsSome, IsOkAnd, refl, sym, ap, ◌∙◌, subst, arith}
+use Rattle.std.proofs.Common.{◌≡◌, ℕ, ◌+◌, ◌<◌, Bool, true, false, cond, ◌⊎◌, inl, inr, List, [], ◌∷◌, ◌++◌, length, codes, Option, Some, None, Result, Ok, IfOk, IsOkAnd, IfSome, refl, sym, ap, ◌∙◌, subst, arith}
 use Rattle.std.specs.Char.{encode_utf8}
-use Rattle.std.specs.Cmp.{first_so, second_so}
-use Rattle.std.specs.List.{list_any}
+use Rattle.std.specs.Cmp.{second_so}
 use Rattle.std.specs.Option.{is_some, option_map}
 use Rattle.std.specs.Str.{is_utf8, chars}
-use Rattle.dc_path.specs.Found.{found}
+use Rattle.std.proofs.lemmas.Fmt.{decimal_digit}
+use Rattle.dc_path.specs.Found.{found, has_path}
 use Rattle.dc_path.specs.Names.{is_name, same_name}
-use Rattle.dc_path.specs.Order.{path_lt}
-use Rattle.dc_path.specs.Paths.{Names, same_path, cut, at_cut, is_root, is_above}
+use Rattle.dc_path.specs.Paths.{Names, same_path, cut, at_cut, is_above, fits}
 use Rattle.dc_path.specs.Reading.{path_from}
 use Rattle.dc_path.proofs.Fronts.{is_above-nil}
-use Rattle.dc_path.proofs.PathLemmas.{append-cut, same_path-true, same_path-refl, same_path-not_below}
-use Rattle.dc_attrs.specs.Attributes.{default_file}
-use Rattle.dc_attrs.specs.Trees.{Tree, File, bare, made, is_dir_node, seen}
-use Rattle.dc_fs.specs.declared.target.Landed.{Landed}
+use Rattle.dc_path.proofs.PathLemmas.{append-cut, same_path-true, same_path-not_below}
+use Rattle.dc_attrs.specs.Attributes.{default_dir, default_file}
+use Rattle.dc_attrs.specs.Trees.{Tree, Dir, File, IsTree, bare, is_dir_node}
 use Rattle.dc_fs.specs.Causes.{steady_at, Rose}
 use Rattle.dc_fs.specs.Rest.{Rest, nothing_kept}
 use Rattle.dc_fs.specs.Temporaries.{WriteStops, IsPast}
-use Rattle.dc_cli.specs.Checks.{checked, is_committed}
-use Rattle.dc_cli.specs.Effects.{AreEffects, AreCounts, GainsEffects, effect_at, path_of}
-use Rattle.dc_cli.specs.Laws.{EffectsAreOne, CountsAreOne}
-use Rattle.dc_cli.specs.Listed.{Listing, listed}
-use Rattle.dc_cli.specs.Numbers.{decimal_of}
-use Rattle.dc_cli.specs.Output.{lines, counter_lines, outcome_text}
-use Rattle.dc_cli.specs.Result.{IsResult, copied}
-use Rattle.dc_cli.specs.Stops.{IsCleared}
-use Rattle.dc_cli.specs.Verdict.{IsVerdict}
-use Rattle.dc_cli.specs.Walks.{IsTooLong, IsTooMany, AreBefore, both_fit}
-use Rattle.dc_cli.specs.Words.{Asks, options}
-use Rattle.dc_cli.specs.declared.outcome.Counts.{Counts}
-use Rattle.dc_cli.specs.declared.outcome.OptionError.{OptionError}
-use Rattle.dc_cli.specs.declared.outcome.Outcome.{Outcome}
-use Rattle.dc_cli.specs.declared.outcome.Outcome.TheVariants as outcome
+use Rattle.dc_fs.specs.Views.{BothTrees, View}
+use Rattle.dc_fs.specs.declared.target.Landed.{Landed}
+use Rattle.dc_fs.proofs.ViewLemmas.{both_trees}
+use Rattle.dc_options.specs.Reading.{options}
+use Rattle.dc_options.specs.Settings.{Settings}
+use Rattle.dc_options.specs.declared.errors.OptionError.{OptionError}
+use Rattle.dc_engine.specs.Finishing.{ShowsEnd}
+use Rattle.dc_engine.specs.Outcomes.{is_big_pattern}
+use Rattle.dc_engine.specs.Running.{HasCopied, commits, without}
+use Rattle.dc_engine.specs.declared.outcome.Counts.{Counts}
+use Rattle.dc_engine.specs.declared.outcome.Outcome.{Outcome}
+use Rattle.dc_engine.specs.declared.outcome.Outcome.TheVariants as outcome
+use Rattle.dc_plain.specs.Laws.{CopiesAreWhole, CountsAreOne, LandingsAreOne, NothingRefuses, WordsArePlain}
+use Rattle.dc_plain.specs.Left.{AreCountsOf, AreFolders, AreLandings, anew, landing_at, left, left_below}
+use Rattle.dc_plain.specs.Plain.{IsListable, IsPlain, copied_from, plain}
+use Rattle.dc_output.specs.Output.{lines, counter_lines, left_out, outcome_text}
+use Rattle.dc_cli.specs.Verdict.{Settles}
+use Rattle.dc_cli.proofs.PlainEnds.{plain_ends}
 use Rattle.dc_client.specs.Small.{small, from_dir, to_dir, to_file, small_words, small_landed, small_counts, small_lines, memory_line}
 
 -- ---- words and paths
-pub asks : Asks small_words from_dir to_dir
-unfolding is_name is_utf8 chars encode_utf8
-asks = refl
-
 pub reads_dir : path_from (codes "/s") ≡ Ok from_dir
 unfolding is_name is_utf8 chars encode_utf8
 reads_dir = refl
@@ -48,78 +45,100 @@ pub reads_file : path_from (codes "/s/a") ≡ Ok (codes "s" ∷ codes "a" ∷ []
 unfolding is_name is_utf8 chars encode_utf8
 reads_file = refl
 
+pub reads_place : path_from (codes "/d") ≡ Ok to_dir
+unfolding is_name is_utf8 chars encode_utf8
+reads_place = refl
+
 pub reads_copy : path_from (codes "/d/a") ≡ Ok to_file
 unfolding is_name is_utf8 chars encode_utf8
 reads_copy = refl
 
 pub ruleset reads = (reads_dir, reads_file, reads_copy)
 
--- ---- the tree that is left
-abbrev listing : Listing
-listing = listed (small (codes "s")) from_dir
+-- the words ask for a plain copy
+pub asked : (words : List (List ℕ)) → words ≡ small_words → WordsArePlain → options words ≡ Ok (plain from_dir to_dir)
+asked words same law = ap options same ∙ law (codes "/s") (codes "/d") from_dir to_dir reads_dir reads_place
 
+-- ---- one path is copied
 abbrev a : List ℕ
 a = codes "a"
 
-left_none : (hidden : Bool) → None ≡ copied (cond hidden None None) false None
+abbrev copied : Tree
+copied = copied_from (small (codes "s")) from_dir
+
+small_plain : IsTree (small (codes "s")) → IsPlain (small (codes "s")) from_dir to_dir
+small_plain tree = record { tree = tree; dir = (default_dir, refl); within = refl; below = refl; shown = refl }
+
+one_by : (hidden is : Bool) → is_some (cond hidden None (cond is (Some (File (codes "hi") default_file)) None)) ≡ true → is ≡ true
+one_by true is h = absurd (cc)
+one_by false true h = refl
+one_by false false h = absurd (cc)
+
+one_copied : (rel : Names) → is_some (copied rel) ≡ true → rel ≡ a ∷ []
+one_copied [] h = absurd (cc)
+one_copied (x ∷ r) h = sym (same_path-true (a ∷ []) (x ∷ r) (one_by _ _ h))
+
+-- it is within the limits
+small_listable : IsListable (small (codes "s")) from_dir to_dir
+small_listable = record {
+  from = λ rel h. subst (λ (q : Names). fits (from_dir ++ q) ≡ true) (sym (one_copied rel h)) refl;
+  to = λ rel h. subst (λ (q : Names). fits (to_dir ++ q) ≡ true) (sym (one_copied rel h)) refl;
+  rels = (a ∷ []) ∷ [];
+  all = λ rel h. subst (λ (q : Names). has_path ((a ∷ []) ∷ []) q ≡ true) (sym (one_copied rel h)) refl;
+  few = omega arith;
+}
+
+-- ---- the tree that is left
+left_none : (hidden : Bool) → option_map anew (cond hidden None None) ≡ None
 left_none true = refl
 left_none false = refl
 
 abbrev LeftBelow : Names → Type 0
-LeftBelow rel = copied (listing rel) (is_root rel) (bare (codes "d" ∷ rel)) ≡ small (codes "d") (codes "d" ∷ rel)
+LeftBelow rel = left_below (small (codes "s")) from_dir rel ≡ small (codes "d") (codes "d" ∷ rel)
 
 left_by : (x : List ℕ) (r : Names) (is : Bool) → same_path (a ∷ []) (x ∷ r) ≡ is → LeftBelow (x ∷ r)
 left_by x r true h = subst LeftBelow (same_path-true (a ∷ []) (x ∷ r) h) refl
-left_by x r false h = rw h (sym (left_none _))
+left_by x r false h = rw h (left_none _)
 
 left_under : (rel : Names) → LeftBelow rel
 left_under [] = refl
 left_under (x ∷ r) = left_by x r _ refl
 
--- nothing is above the target but the root, which stands
-above_none : (p : Names) (above : Bool) → is_above p to_dir ≡ above → cond above (made (bare p)) (bare p) ≡ bare p
+-- nothing is above the target but the root
+above_none : (p : Names) (above : Bool) → is_above p to_dir ≡ above → cond above (Some (Dir default_dir)) None ≡ bare p
 above_none [] above h = rw (sym h) refl
 above_none (y ∷ q) true h = let up = second_so (same_name y (codes "d")) (is_above q []) h in let none = is_above-nil q in cc
 above_none (y ∷ q) false h = refl
 
-left_at : (p : Names) (o : Option Names) → cut to_dir p ≡ o →
-    at_cut o (cond (is_above p to_dir) (made (bare p)) (bare p)) (λ rel. copied (listing rel) (is_root rel) (bare p)) ≡ small (codes "d") p
+left_at : (p : Names) (o : Option Names) → cut to_dir p ≡ o → at_cut o (cond (is_above p to_dir) (Some (Dir default_dir)) None) (left_below (small (codes "s")) from_dir) ≡ small (codes "d") p
 left_at p None h = rw (same_path-not_below to_dir [] p h, same_path-not_below to_dir (a ∷ []) p h) (above_none p _ refl)
 left_at p (Some rel) h = rw (append-cut to_dir p rel h) (left_under rel)
 
--- what stands at each path decides the tree
-same_trees : (s t : Tree) → ((p : Names) → s p ≡ t p) → s ≡ t
-same_trees s t h = λ i p. h p i
-
-pub small_left : (told : Option Tree) → IsResult listing bare to_dir told → told ≡ Some (small (codes "d"))
-small_left None left = absurd left
-small_left (Some t) left = ap Some (same_trees t (small (codes "d")) (λ p. left p ∙ left_at p _ refl))
+small_left : left (small (codes "s")) from_dir to_dir ≡ small (codes "d")
+small_left = λ i p. left_at p _ refl i
 
 -- ---- what has landed
-no_effect : (p : Names) (hidden : Bool) → None ≡ effect_at p (cond hidden None None)
-no_effect p true = refl
-no_effect p false = refl
+no_landing : (place : Names) (hidden : Bool) → None ≡ landing_at place (cond hidden None None)
+no_landing place true = refl
+no_landing place false = refl
 
 abbrev LandsBelow : Names → Type 0
-LandsBelow rel = found path_of small_landed (codes "d" ∷ rel) ≡ effect_at (codes "d" ∷ rel) (listing rel)
+LandsBelow rel = found (λ (one : Landed). one.path) small_landed (codes "d" ∷ rel) ≡ landing_at (to_dir ++ rel) (copied rel)
 
 lands_by : (x : List ℕ) (r : Names) (is : Bool) → same_path (a ∷ []) (x ∷ r) ≡ is → LandsBelow (x ∷ r)
 lands_by x r true h = subst LandsBelow (same_path-true (a ∷ []) (x ∷ r) h) refl
-lands_by x r false h = rw h (no_effect _ _)
+lands_by x r false h = rw h (no_landing _ _)
 
 lands_under : (rel : Names) → LandsBelow rel
 lands_under [] = refl
 lands_under (x ∷ r) = lands_by x r _ refl
 
-lands_at : (p : Names) (o : Option Names) → cut to_dir p ≡ o → found path_of small_landed p ≡ at_cut o None (λ rel. effect_at p (listing rel))
+lands_at : (p : Names) (o : Option Names) → cut to_dir p ≡ o → found (λ (one : Landed). one.path) small_landed p ≡ at_cut o None (λ rel. landing_at (to_dir ++ rel) (copied rel))
 lands_at p None h = rw (same_path-not_below to_dir (a ∷ []) p h) refl
 lands_at p (Some rel) h = rw (append-cut to_dir p rel h) (lands_under rel)
 
-small_lands : AreEffects listing to_dir small_landed
-small_lands = record { ascending = refl; landed = λ p. lands_at p _ refl }
-
-pub has_landed : EffectsAreOne → (old new : List Landed) → old ≡ [] → GainsEffects listing to_dir old new → new ≡ small_landed
-has_landed law old new none gains = gains.2 ∙ ap (λ before. before ++ gains.0) none ∙ law listing to_dir gains.0 small_landed gains.1 small_lands
+small_lands : AreLandings (small (codes "s")) from_dir to_dir small_landed
+small_lands = record { ascending = refl; each = λ p. lands_at p _ refl }
 
 -- ---- what is counted
 no_folder : (hidden is : Bool) → false ≡ is_dir_node (cond hidden None (cond is (Some (File (codes "hi") default_file)) None))
@@ -127,23 +146,70 @@ no_folder true is = refl
 no_folder false true = refl
 no_folder false false = refl
 
-not_folder : (rel : Names) → false ≡ is_dir_node (listing rel)
+not_folder : (rel : Names) → false ≡ is_dir_node (copied rel)
 not_folder [] = refl
 not_folder (x ∷ r) = no_folder _ _
 
-small_counted : AreCounts listing to_dir small_counts
-small_counted = record { effects = small_landed; landed = small_lands; folders = []; made = record { ascending = refl; listed = not_folder }; counted = refl }
+small_folders : AreFolders (small (codes "s")) from_dir []
+small_folders = record { ascending = refl; each = not_folder }
 
-pub has_counted : CountsAreOne → (counts : Counts) → AreCounts listing to_dir counts → counts ≡ small_counts
-has_counted law counts h = law listing to_dir counts small_counts h small_counted
+small_counted : AreCountsOf (small (codes "s")) from_dir to_dir small_counts
+small_counted = record { landings = small_landed; land = small_lands; folders = []; made = small_folders; are = refl }
+
+-- ---- the run
+-- both stores tell their small trees
+pub record TellSmall (source target : Option Tree) : Type 0 where
+  pub from : source ≡ Some (small (codes "s"))
+  pub to : target ≡ Some bare
+  pub from_tree : IfSome source IsTree
+  pub to_tree : IfSome target IsTree
+
+from_is_tree : (source target : Option Tree) → TellSmall source target → IsTree (small (codes "s"))
+from_is_tree source target told = subst (λ (o : Option Tree). IfSome o IsTree) told.from told.from_tree
+
+of_told : (source target : Option Tree) (P : Tree → Tree → Type 0) → TellSmall source target → BothTrees source target P → P (small (codes "s")) bare
+of_told source target P told h =
+    both_trees P source target (small (codes "s")) bare told.from told.to (from_is_tree source target told) (subst (λ (o : Option Tree). IfSome o IsTree) told.to told.to_tree) h
+
+-- it commits, or memory runs out
+pub ends : (words : List (List ℕ)) (source target : Option Tree) (e : Outcome) (from from_now old new : View) → words ≡ small_words → TellSmall source target → WordsArePlain → NothingRefuses
+    → IfOk (options words) (λ o. ShowsEnd o e from from_now old new) → (is_big_pattern e ≡ true → IfOk (options words) (λ o. is_some o.filters ≡ true)) → BothTrees source target (λ s t. Settles words s t e)
+    → (e ≡ outcome.Committed) ⊎ (e ≡ outcome.Memory)
+ends words source target e from from_now old new same told law refuses shows big h =
+    plain_ends (small (codes "s")) from_dir to_dir words e from from_now old new refuses (asked words same law) (small_plain (from_is_tree source target told)) small_listable shows big
+    (of_told source target (λ s t. Settles words s t e) told h)
+
+-- tree, landings and counters of a run that commits
+pub record IsSmall (counts : Counts) (new : View) : Type 0 where
+  pub tree : new.tree ≡ Some (small (codes "d"))
+  pub landed : new.rest.landed ≡ small_landed
+  pub counted : counts ≡ small_counts
+
+is_small : CopiesAreWhole → LandingsAreOne → CountsAreOne → (paths : List Names) (counts : Counts) (from from_now old new : View) → old.rest ≡ nothing_kept → IsTree (small (codes "s"))
+    → HasCopied (plain from_dir to_dir) (small (codes "s")) bare paths counts from from_now old new → IsSmall counts new
+is_small copies landings counters paths counts from from_now old new none tree h =
+    let done = (copies (small (codes "s")) from_dir to_dir paths counts from from_now old new (small_plain tree) h).1 in
+    record {
+      tree = done.tree ∙ ap Some small_left;
+      landed = done.landed ∙ ap (λ (rest : Rest). rest.landed ++ done.counted.landings) none ∙ landings (small (codes "s")) from_dir to_dir done.counted.landings small_landed done.counted.land small_lands;
+      counted = counters (small (codes "s")) from_dir to_dir counts small_counts done.counted small_counted;
+    }
+
+pub leaves : (words : List (List ℕ)) (source target : Option Tree) (e : Outcome) (counts : Counts) (from from_now old new : View) → words ≡ small_words → TellSmall source target → WordsArePlain → CopiesAreWhole → LandingsAreOne → CountsAreOne
+    → old.rest ≡ nothing_kept → (commits e ≡ true → IsOkAnd (options words) (λ o. BothTrees source target (λ s t. HasCopied o s t (without e) counts from from_now old new))) → e ≡ outcome.Committed → IsSmall counts new
+leaves words source target e counts from from_now old new same told law copies landings counters none h is =
+    let whole : BothTrees source target (λ s t. HasCopied (plain from_dir to_dir) s t (without e) counts from from_now old new) =
+    subst (λ (r : Result Settings OptionError). IsOkAnd r (λ o. BothTrees source target (λ s t. HasCopied o s t (without e) counts from from_now old new))) (asked words same law) (h (ap commits is)) in
+    is_small copies landings counters (without e) counts from from_now old new none (from_is_tree source target told)
+    (of_told source target (λ s t. HasCopied (plain from_dir to_dir) s t (without e) counts from from_now old new) told whole)
 
 -- ---- what is printed
 committed_lines : lines outcome.Committed small_counts ≡ small_lines
-unfolding decimal_of counter_lines outcome_text
-committed_lines = refl
+unfolding counter_lines left_out outcome_text
+committed_lines = rw (decimal_digit 0 (omega arith), decimal_digit 1 (omega arith), decimal_digit 2 (omega arith)) refl
 
 memory_lines : (counts : Counts) → lines outcome.Memory counts ≡ memory_line
-unfolding outcome_text
+unfolding left_out outcome_text
 memory_lines counts = refl
 
 -- the lines of a run that ended in one of the two ways
@@ -173,101 +239,6 @@ all_printed false limit piece old new most none short stops =
     let none_left : ⊥ = omega arith in
     absurd none_left
 
--- ---- what is decided
-small_checked : checked from_dir to_dir (seen (small (codes "s")) from_dir) (seen bare to_dir) ≡ Ok tt
-small_checked = refl
-
-both_paths : (root place other_root other_place : Names) → ◌≡◌ {A = Result (List Names) OptionError} (Ok (root ∷ place ∷ [])) (Ok (other_root ∷ other_place ∷ [])) → (root ≡ other_root) × (place ≡ other_place)
-both_paths root place other_root other_place e = (cc, cc)
-
--- the words name no other paths
-one_asked : (root place : Names) → Asks small_words root place → (from_dir ≡ root) × (to_dir ≡ place)
-one_asked root place asked = both_paths _ _ _ _ (sym asks ∙ asked)
-
--- a fact of all paths that the words name
-of_asked : (P : Names → Names → Type 0) → P from_dir to_dir → (root place : Names) → Asks small_words root place → P root place
-of_asked P h root place asked =
-    let same = one_asked root place asked in subst (λ place. P root place) same.1 (subst (λ root. P root to_dir) same.0 h)
-
-not_err : (o : Result (Unit {0}) Outcome) (e : Outcome) → o ≡ Ok tt → o ≡ Err e → ⊥
-not_err o e ok err = cc
-
-refuses_not : (e : Outcome) (root place : Names) → Asks small_words root place → checked root place (seen (small (codes "s")) root) (seen bare place) ≡ Err e → ⊥
-refuses_not e = of_asked (λ root place. checked root place (seen (small (codes "s")) root) (seen bare place) ≡ Err e → ⊥) (not_err _ e small_checked)
-
--- the words are two paths
-asked_as : (paths : Result (List Names) OptionError) → paths ≡ Ok (from_dir ∷ to_dir ∷ []) → IsOkAnd paths (λ paths. 2 < length paths) → ⊥
-asked_as paths e more = let two : 2 < 2 = subst (λ paths. IsOkAnd paths (λ paths. 2 < length paths)) e more in omega arith
-
-asked_no_err : (paths : Result (List Names) OptionError) (error : OptionError) → paths ≡ Ok (from_dir ∷ to_dir ∷ []) → paths ≡ Err error → ⊥
-asked_no_err paths error ok err = cc
-
--- one path is listed
-listed_by : (hidden is : Bool) (B : Type 0) → IsSome (cond hidden None (cond is (Some (File (codes "hi") default_file)) None)) → (is ≡ true → B) → B
-listed_by true is B h k = cc
-listed_by false true B h k = k refl
-listed_by false false B h k = cc
-
-one_listed : (rel : Names) → IsSome (listing rel) → rel ≡ a ∷ []
-one_listed [] h = cc
-one_listed (x ∷ r) h = listed_by _ _ ((x ∷ r) ≡ a ∷ []) h (λ same. sym (same_path-true (a ∷ []) (x ∷ r) same))
-
--- its path is within the limits
-not_long : (parent : Names) (name : List ℕ) → IsTooLong listing from_dir to_dir parent name → ⊥
-not_long parent name h =
-    let fits : both_fit from_dir to_dir (a ∷ []) ≡ true = refl in
-    let passes : both_fit from_dir to_dir (a ∷ []) ≡ false = subst (λ rel. both_fit from_dir to_dir rel ≡ false) (one_listed h.rel h.listed) h.passes in
-    cc
-
-first_any : (b c : Bool) → b ≡ true → (b || c) ≡ true
-first_any true c h = refl
-first_any false c h = cc
-
-second_any : (b c : Bool) → c ≡ true → (b || c) ≡ true
-second_any true c h = refl
-second_any false c h = h
-
--- what is listed before a path is that one
-listed_before : (rels : List Names) (rel q : Names) → AreBefore listing rel rels → list_any (same_path q) rels ≡ true → q ≡ a ∷ []
-listed_before rels rel q h any = one_listed q (second_so (path_lt q rel) (is_some (listing q)) (sym (h.listed q) ∙ any))
-
--- so there are not two such
-not_many : (rels : List Names) (rel : Names) → AreBefore listing rel rels → length rels ≡ 1048576 → ⊥
-not_many [] rel h many = let none : ◌≡◌ {A = ℕ} 0 1048576 = many in omega arith
-not_many (p ∷ []) rel h many = let one : ◌≡◌ {A = ℕ} 1 1048576 = many in omega arith
-not_many (p ∷ q ∷ rels) rel h many =
-    let p_is = listed_before (p ∷ q ∷ rels) rel p h (first_any _ _ (same_path-refl p)) in
-    let q_is = listed_before (p ∷ q ∷ rels) rel q h (second_any _ _ (first_any _ _ (same_path-refl q))) in
-    let before : path_lt p q ≡ true = first_so _ _ (first_so _ _ h.ascending) in
-    let not_before : path_lt (a ∷ []) (a ∷ []) ≡ false = refl in
-    let it_is : path_lt (a ∷ []) (a ∷ []) ≡ true = subst (λ q. path_lt (a ∷ []) q ≡ true) q_is (subst (λ p. path_lt p q ≡ true) p_is before) in
-    cc
-
-long_not : (parent : Names) (name : List ℕ) (root place : Names) → Asks small_words root place → IsTooLong (listed (small (codes "s")) root) root place parent name → ⊥
-long_not parent name = of_asked (λ root place. IsTooLong (listed (small (codes "s")) root) root place parent name → ⊥) (not_long parent name)
-
-many_not : (root place : Names) → Asks small_words root place → IsTooMany (listed (small (codes "s")) root) root place → ⊥
-many_not = of_asked (λ root place. IsTooMany (listed (small (codes "s")) root) root place → ⊥) (λ h. not_many h.rels h.rel h.before h.many)
-
--- no other verdict is left
-commits : (e : Outcome) → IsVerdict small_words (small (codes "s")) bare e → e ≡ outcome.Committed
-commits outcome.Committed v = refl
-commits (outcome.BadOption error) v = absurd (asked_no_err (options small_words) error asks v)
-commits outcome.Unbuilt (inl more) = absurd (asked_as (options small_words) asks more)
-commits outcome.Unbuilt (inr v) = absurd (refuses_not outcome.Unbuilt v.0 v.1 v.2 v.3)
-commits (outcome.TooMany what) v = absurd (many_not v.0 v.1 v.2 v.3.1)
-commits (outcome.TooLong parent name) v = absurd (long_not parent name v.0 v.1 v.2 v.3.1)
-commits (outcome.NoSource path) v = absurd (refuses_not (outcome.NoSource path) v.0 v.1 v.2 v.3)
-commits (outcome.BadTarget kind) v = absurd (refuses_not (outcome.BadTarget kind) v.0 v.1 v.2 v.3)
-commits outcome.SourceFault v = absurd (refuses_not outcome.SourceFault v.0 v.1 v.2 v.3)
-commits (outcome.TargetFault phase done) v = absurd (refuses_not (outcome.TargetFault phase done) v.0 v.1 v.2 v.3)
-commits (outcome.Changed path) v = absurd (refuses_not (outcome.Changed path) v.0 v.1 v.2 v.3)
-commits outcome.Memory v = absurd (refuses_not outcome.Memory v.0 v.1 v.2 v.3)
-
-pub ends : (words : List (List ℕ)) (e : Outcome) → words ≡ small_words → IsVerdict words (small (codes "s")) bare e ⊎ (e ≡ outcome.Memory) → (e ≡ outcome.Committed) ⊎ (e ≡ outcome.Memory)
-ends words e same (inl v) = inl (commits e (subst (λ words. IsVerdict words (small (codes "s")) bare e) same v))
-ends words e same (inr memory) = inr memory
-
 -- ---- what is left besides
 -- what is steady has not failed
 pub not_failed : (steady : Bool) (faults : ℕ) → steady_at steady faults ≡ Some 0 → faults ≡ 0
@@ -277,13 +248,15 @@ not_failed false faults h = cc
 not_rose : (before now : ℕ) → before ≡ 0 → now ≡ 0 → Rose before now → ⊥
 not_rose before now b n rose = omega arith
 
-no_scratch_by : (old new : Rest) (before now : ℕ) → old ≡ nothing_kept → before ≡ 0 → now ≡ 0 → (new ≡ old) ⊎ IsCleared new.scratch before now → new.scratch ≡ 0
+no_scratch_by : (old new : Rest) (before now : ℕ) → old ≡ nothing_kept → before ≡ 0 → now ≡ 0 → (new ≡ old) ⊎ ((new.scratch ≡ 0) ⊎ Rose before now) → new.scratch ≡ 0
 no_scratch_by old new before now none b n (inl same) = ap (λ rest. rest.scratch) (same ∙ none)
 no_scratch_by old new before now none b n (inr (inl cleared)) = cleared
 no_scratch_by old new before now none b n (inr (inr rose)) = absurd (not_rose before now b n rose)
 
 -- no temporary is left, however the run ended
-pub no_scratch : (e : Outcome) (old new : Rest) (before now : ℕ) → (e ≡ outcome.Committed) ⊎ (e ≡ outcome.Memory) → old ≡ nothing_kept → before ≡ 0 → now ≡ 0 →
-    (e ≡ outcome.Committed → new.scratch ≡ 0) → (is_committed e ≡ false → (new ≡ old) ⊎ IsCleared new.scratch before now) → new.scratch ≡ 0
-no_scratch e old new before now (inl is) none b n swept left = swept is
-no_scratch e old new before now (inr is) none b n swept left = no_scratch_by old new before now none b n (left (ap is_committed is))
+pub no_scratch : (words : List (List ℕ)) (e : Outcome) (from from_now old new : View) → words ≡ small_words → WordsArePlain → (e ≡ outcome.Committed) ⊎ (e ≡ outcome.Memory) → old.rest ≡ nothing_kept → old.faults ≡ 0 → new.faults ≡ 0
+    → IfOk (options words) (λ o. ShowsEnd o e from from_now old new) → (commits e ≡ false → (new.rest ≡ old.rest) ⊎ ((new.rest.scratch ≡ 0) ⊎ Rose old.faults new.faults)) → new.rest.scratch ≡ 0
+no_scratch words e from from_now old new same law (inl is) none b n shows left =
+    let shown : ShowsEnd (plain from_dir to_dir) e from from_now old new = subst (λ (r : Result Settings OptionError). IfOk r (λ o. ShowsEnd o e from from_now old new)) (asked words same law) shows in
+    shown.swept (ap commits is)
+no_scratch words e from from_now old new same law (inr is) none b n shows left = no_scratch_by old.rest new.rest old.faults new.faults none b n (left (ap commits is))

@@ -5,7 +5,7 @@ use Rattle.dc_attrs.specs.Attributes.{default_file, default_dir}
 use Rattle.dc_attrs.specs.Trees.{Dir, File, Tree, bare, with_node}
 use Rattle.dc_fs.specs.declared.target.Landed.{Landed}
 use Rattle.dc_fs.specs.declared.target.Mode.TheVariants as mode_of
-use Rattle.dc_cli.specs.declared.outcome.Counts.{Counts}
+use Rattle.dc_engine.specs.declared.outcome.Counts.{Counts}
 
 -- the root, and a directory of this name with the file `a` in it, whose bytes are `hi`
 abbrev pub small : List ℕ → Tree

@@ -2,8 +2,8 @@
 //!
 //! The source holds the directory `/s` with the file `a`, the target nothing; both are stores in memory of which no call
 //! fails. All that the contracts here promise follows from what the public contracts of `distcp`, of the stores and of the
-//! trees promise: nothing is known of how a copy goes. A client of its own stores would write the same, with what it
-//! knows of them in the place of the small tree.
+//! trees promise, and from the laws of plain copies: nothing is known of how a copy goes. A client of its own stores would
+//! write the same, with what it knows of them in the place of the small tree.
 #![tactic(auto)]
 
 #[cfg(test)]
@@ -17,11 +17,14 @@ ghost use Rattle.dc_tree.specs.Arena.{tree_of};
 ghost use Rattle.dc_client.specs.Small.{small, from_dir, to_file, small_words, small_landed, small_counts, small_lines, memory_line};
 
 use dc_attrs::Attrs;
-use dc_cli::laws::listing_laws;
-use dc_cli::{Answer, Outcome, distcp};
+use dc_cli::distcp;
+use dc_engine::Outcome;
+use dc_filter::RegexPatterns;
 use dc_fs::{Sink, Store};
 use dc_memfs::{Fails, MemSink, MemSource, MemTarget};
+use dc_output::Answer;
 use dc_path::{List, OutOfMemory, Path, Text};
+use dc_plain::laws::plain_laws;
 use dc_tree::MemTree;
 use std::alloc::Global;
 use std::thread::Threads;
@@ -155,8 +158,17 @@ pub fn run_small<R: Threads + Sync>(
     let forks = Fails::none(alloc);
     let mut source = MemSource::new(tree, &own, &forks);
     let mut target = MemTarget::new(alloc, empty, Fails::none(alloc), Fails::none(alloc));
-    let answer = distcp(rt, alloc, words, &mut source, &mut target, &mut sink);
-    listing_laws();
+    let mut pats = RegexPatterns::new(None);
+    let answer = distcp(
+        rt,
+        alloc,
+        words,
+        &mut source,
+        &mut target,
+        &mut pats,
+        &mut sink,
+    );
+    plain_laws();
     Ran {
         answer,
         target,

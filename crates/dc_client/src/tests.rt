@@ -2,8 +2,9 @@
 #![tactic(auto)]
 
 use crate::{copy_small, run_small, source_tree, words};
-use dc_cli::{Outcome, status};
+use dc_engine::Outcome;
 use dc_memfs::MemSink;
+use dc_output::status;
 use dc_tree::MemTree;
 use std::test::Fail;
 

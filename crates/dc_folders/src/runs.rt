@@ -1,10 +1,12 @@
 //! A run between two folders.
 #![tactic(auto)]
 
-use dc_cli::{distcp, status};
+use dc_cli::distcp;
+use dc_filter::RegexPatterns;
 use dc_fs::{Source, Target};
 use dc_local::{LocalSource, LocalTarget};
 use dc_memfs::MemSink;
+use dc_output::status;
 use dc_path::{List, OutOfMemory, Text};
 use std::alloc::Global;
 use std::fs;
@@ -30,8 +32,17 @@ fn commits<R: Threads + Sync, S: Source, T: Target>(
     target: &mut T,
 ) -> Result<bool, OutOfMemory> {
     let words = words(alloc)?;
+    let mut pats = RegexPatterns::new(None);
     let mut out = MemSink::new(alloc, None)?;
-    let answer = distcp(rt, alloc, words.as_slice(), source, target, &mut out);
+    let answer = distcp(
+        rt,
+        alloc,
+        words.as_slice(),
+        source,
+        target,
+        &mut pats,
+        &mut out,
+    );
     Ok(status(&answer) == 0 && out.bytes() == LINES.as_bytes())
 }
 

@@ -13,9 +13,9 @@ use Rattle.dc_report.specs.Carrying.{Has, carries_of, is_fresh, moved, plan}
 use Rattle.dc_report.specs.Apart.{IsReport}
 use Rattle.dc_report.specs.Moves.{moves_of}
 use Rattle.dc_replay.specs.Checking.{IsStageFree, NoneMovedTo, Passes, is_to_be_made, where_to}
-use Rattle.dc_replay.specs.Replaying.{EndIsReached, IsShifted}
+use Rattle.dc_replay.specs.Replaying.{CopyIsOne, EndIsReached, IsShifted, TrueReportsList}
 use Rattle.dc_replay.specs.Steps.{after}
-use Rattle.dc_replay.specs.Truth.{HasNoHidden, HasSameKinds, IsLikeness, IsTrueOf, KeepsNodes, are_alike, is_listed, kind, plain, takes_modified, with_listed}
+use Rattle.dc_replay.specs.Truth.{HasNoHidden, HasSameKinds, IsLikeness, IsTrueOf, KeepsNodes, are_alike, is_listed, kind, plain, takes_modified}
 use Rattle.dc_report.specs.declared.entries.Entry.{Entry}
 use Rattle.dc_report.specs.declared.entries.Entry.TheVariants.{Modified}
 use Rattle.dc_replay.proofs.Base.{graft_at}
@@ -25,7 +25,7 @@ use Rattle.dc_replay.proofs.Allowed.{Checked, above_rest, off_root, none_or}
 use Rattle.dc_replay.proofs.Final.{came_arrives, leads_true, cond_some, none_cond}
 use Rattle.dc_replay.proofs.TrueReport.{IsForm, new_there, true_passes}
 use Rattle.dc_replay.proofs.PlanLemmas.{form_of}
-use Rattle.dc_replay.proofs.TrueEntries.{plan_true, plain_some, plain_at, plain_valid, from_seen, true_makes_check_pass}
+use Rattle.dc_replay.proofs.TrueEntries.{plan_true, plain_some, plain_at, plain_there, plain_valid, from_seen, true_makes_check_pass}
 use Rattle.dc_replay.proofs.Replaying.{replaying, shifted_is}
 use Rattle.dc_report.proofs.Carriers.{carrier_stays}
 use Rattle.dc_report.specs.Landings.{is_at}
@@ -82,8 +82,10 @@ module _ (s st : List ℕ) (R : List Entry) (A O N : Tree) (like : Node → Node
   not_root : (p q : Names) → (q ≡ [] → ⊥) → where_to R p ≡ Some q → p ≡ [] → ⊥
   not_root p q off m e = off (same_Some q [] (sym m ∙ ap (moved (carries_of R)) e ∙ root_goes))
 
-  unmodified : (p q : Names) → list_any (takes_modified R q) R ≡ false → where_to R p ≡ Some q → Has R (Modified p) → ⊥
-  unmodified p q un m h = let k : true ≡ false = sym (has_any (takes_modified R q) R (Modified p) h (ap (λ (u : Option Names). is_at u q) m ∙ same_path-refl q)) ∙ un in cc
+  unmodified : (p q : Names) → (p ≡ [] → ⊥) → list_any (takes_modified R q) R ≡ false → where_to R p ≡ Some q → Has R (Modified p) → ⊥
+  unmodified [] q low un m h = low refl
+  unmodified (y ∷ p) q low un m h =
+      let k : true ≡ false = sym (has_any (takes_modified R q) R (Modified (y ∷ p)) h (ap (λ (u : Option Names). is_at u q) m ∙ same_path-refl q)) ∙ un in cc
 
   survivor : (q : Names) (x y : Node) → list_any (takes_modified R q) R ≡ false → (q ≡ [] → ⊥) → came (plan R) O q ≡ Some x → are_alike like (shifted (plan R) A q) (N q) ≡ true
   survivor q x y un root c =
@@ -91,7 +93,7 @@ module _ (s st : List ℕ) (R : List Entry) (A O N : Tree) (like : Node → Node
       let k = cond_some (is_at (where_to R p) q) (O p) x c in
       let m : where_to R p ≡ Some q = leads_true (where_to R p) q k.0 in
       let low = not_root p q root m in
-      let i : N q ≡ Some x = keeps p q x (unmodified p q un m) low k.1 m in
+      let i : N q ≡ Some x = keeps p q x (unmodified p q low un m) low k.1 m in
       let l = like_some like (plain s A p) (O p) x (same p low) k.1 in
       let a : A p ≡ Some l.0 = (plain_some (has_name s p) (A p) l.0 l.1).1 in
       rw (is_shifted.moved p q l.0 a m, i) l.2
@@ -131,7 +133,7 @@ module _ (s st : List ℕ) (R : List Entry) (A O N : Tree) (like : Node → Node
       by_end (Some y) e (Some x) f = survivor q x y parts.1 root f
 
 pub end_reached : EndIsReached
-end_reached s st d R T O N like is seen free v dir o w likeness t keeps same p root = by_hidden (has_name s p) refl
+end_reached s st d R T O N Y like is seen free v dir o w likeness t keeps same copied p root = by_hidden (has_name s p) refl
   where
     A : Tree
     A = at T d
@@ -145,19 +147,42 @@ end_reached s st d R T O N like is seen free v dir o w likeness t keeps same p r
     goes : X p ≡ shifted (plan R) A p
     goes = ap (λ (u : Tree). u (d ++ p)) (replaying st d R T is v dir ok).gives ∙ graft_at d T (shifted (plan R) A) p
 
-    -- what is listed and stands is as it stands, and where nothing stands the moves leave nothing
-    copied : has_name s p ≡ false → (n : Option Node) → N p ≡ n → are_alike like (option_or n (X p)) n ≡ true
-    copied h None e =
-        let k = both_none s st R A (plain s O) (plain s N) like likeness is seen free (valid_at T d v dir) (plain_valid s O o) (plain_valid s N w) same t keeps p root h (plain_at s N p h ∙ e) in
-        ap (λ (u : Option Node). are_alike like u None) (goes ∙ k)
-    copied h (Some y) e = likeness.same y
-
-    by_listed : has_name s p ≡ false → (b : Bool) → is_listed R p ≡ b → are_alike like (cond b (option_or (N p) (X p)) (X p)) (N p) ≡ true
-    by_listed h true l = copied h (N p) refl
-    by_listed h false l =
+    -- where nothing is listed, the moves alone lead there
+    unlisted : has_name s p ≡ false → is_listed R p ≡ false → are_alike like (Y p) (N p) ≡ true
+    unlisted h l =
         let k = end_snapshot s st R A (plain s O) (plain s N) like likeness is seen free (valid_at T d v dir) (plain_valid s O o) (plain_valid s N w) same t keeps p root h l in
-        ap (λ (u : Option Node). are_alike like u (N p)) goes ∙ ap (are_alike like (shifted (plan R) A p)) (sym (plain_at s N p h)) ∙ k
+        ap (λ (u : Option Node). are_alike like u (N p)) (copied.off p root h l ∙ goes) ∙ ap (are_alike like (shifted (plan R) A p)) (sym (plain_at s N p h)) ∙ k
 
-    by_hidden : (b : Bool) → has_name s p ≡ b → are_alike like (cond b None (with_listed R N X p)) (cond b None (N p)) ≡ true
+    -- what is listed counts as what stands there, and where nothing stands the moves leave nothing
+    by_node : has_name s p ≡ false → is_listed R p ≡ true → (n : Option Node) → N p ≡ n → are_alike like (Y p) n ≡ true
+    by_node h l None e =
+        let k = both_none s st R A (plain s O) (plain s N) like likeness is seen free (valid_at T d v dir) (plain_valid s O o) (plain_valid s N w) same t keeps p root h (plain_at s N p h ∙ e) in
+        ap (λ (u : Option Node). are_alike like u None) (copied.absent p root h e ∙ goes ∙ k)
+    by_node h l (Some y) e = copied.listed p y root h l e
+
+    by_listed : has_name s p ≡ false → (b : Bool) → is_listed R p ≡ b → are_alike like (Y p) (N p) ≡ true
+    by_listed h true l = by_node h l (N p) refl
+    by_listed h false l = unlisted h l
+
+    by_hidden : (b : Bool) → has_name s p ≡ b → are_alike like (cond b None (Y p)) (cond b None (N p)) ≡ true
     by_hidden true h = refl
     by_hidden false h = by_listed h (is_listed R p) refl
+
+-- ---- a copy of whole nodes is a copy
+pub copy_is_one : CopyIsOne
+copy_is_one s R N X like likeness = record {
+  off = λ q root h l. rw l refl;
+  absent = λ q root h e. absent_at q (is_listed R q) e;
+  listed = λ q x root h l e. rw (l, e) (likeness.same x);
+}
+  where
+    absent_at : (q : Names) (b : Bool) → N q ≡ None → cond b (option_or (N q) (X q)) (X q) ≡ X q
+    absent_at q true e = rw e refl
+    absent_at q false e = refl
+
+-- ---- what the listing looks for
+pub true_reports_list : TrueReportsList
+true_reports_list s R O N t = record {
+  modified = λ x p q h m. let o = t.modified x p h in let n = t.leads (x ∷ p) q o.0 o.1 m in plain_there s N q (n.0, n.1);
+  created = λ c q h e. plain_there s N q (t.places c q h e).0;
+}

@@ -1,15 +1,21 @@
 -- The modules of the proofs.
+pub mod Accepting
 pub mod Allowed
 pub mod Base
+pub mod Bounds
 pub mod Checking
 pub mod EndSnapshot
 pub mod Final
+pub mod LimitLaws
+pub mod ListingLaws
+pub mod LookFronts
 pub mod Looks
 pub mod Placing
 pub mod PlanLemmas
 pub mod Refusing
 pub mod ReplayLaw
 pub mod Replaying
+pub mod StageLaws
 pub mod Staging
 pub mod Testing
 pub mod Tracking

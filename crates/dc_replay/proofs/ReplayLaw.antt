@@ -19,7 +19,7 @@ use Rattle.dc_replay.proofs.PlanLemmas.{carry_from}
 use Rattle.dc_replay.proofs.Testing.{entry_none, unless_none}
 use Rattle.dc_replay.proofs.Base.{graft_same}
 use Rattle.dc_replay.proofs.Checking.{passes_from, passes_to}
-use Rattle.dc_replay.proofs.Replaying.{nothing_shifted, replaying, shifted_is, files_stay}
+use Rattle.dc_replay.proofs.Replaying.{nothing_shifted, replaying, shifted_is, files_stay, lasts_clear}
 use Rattle.std.proofs.lemmas.Bool.{and_right}
 use Rattle.std.proofs.lemmas.Option.{same_Some}
 use Rattle.dc_attrs.proofs.TreeLemmas.{front_is_dir, there_is}
@@ -55,6 +55,7 @@ nothing_holds st d R T v e = record {
   replayed = nothing_replayed st d R T v e;
   shifted_is = subst (λ (X : Tree). IsShifted R (at T d) X) (nothing_shifted R (at T d) e) (as_it_is R (at T d) e);
   files = λ k l. let n : length (moves_of st d R) ≡ 0 = ap length (no_moves st d R e) in absurd (omega arith);
+  last = lasts_clear st d R;
 }
 
 -- ---- where something is carried, the base is a directory
@@ -73,7 +74,7 @@ by_carries st d R T (c ∷ cs) e is v free pass =
     let dir = carried_there st d R T c v free pass (subst (λ (l : List Carry). Has l c) (sym e) (inl refl)) in
     let a = valid_at T d v dir in
     let ok = passes_from st R (at T d) is a free pass in
-    record { replayed = replaying st d R T is v dir ok; shifted_is = shifted_is st R (at T d) is a ok; files = λ k l. files_stay st d R T k is v dir ok l }
+    record { replayed = replaying st d R T is v dir ok; shifted_is = shifted_is st R (at T d) is a ok; files = λ k l. files_stay st d R T k is v dir ok l; last = lasts_clear st d R }
 
 pub replaying_holds : ReplayingHolds
 replaying_holds st d R T is v free pass = by_carries st d R T (carries_of R) refl is v free pass

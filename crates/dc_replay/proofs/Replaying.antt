@@ -121,10 +121,15 @@ fronts_clear_for : (st : List ℕ) (P : Plan) (cs : List Carry) (k : ℕ) → k 
 fronts_clear_for st P [] k l = absurd (omega arith)
 fronts_clear_for st P (c ∷ cs) k l = fronts_clear st P k l
 
+-- no move but the last removes anything
+pub lasts_clear : (st : List ℕ) (d : Names) (R : List Entry) (k : ℕ) → k < length (moves_of st d R) → HasNoClear (take k (moves_of st d R))
+lasts_clear st d R k l =
+    clear_below d k (moves_for st (plan R) (carries_of R))
+    (fronts_clear_for st (plan R) (carries_of R) k (rw (sym (length-map (moves_for st (plan R) (carries_of R)) (below d))) l))
+
 -- before the last move each file stands at exactly one path, and there are no others
 pub files_stay : (st : List ℕ) (d : Names) (R : List Entry) (T : Tree) (k : ℕ) → IsReport R → IsTree T → IsDirAt T d → Passes st R (at T d) → k < length (moves_of st d R) → Carries (take k (moves_of st d R)) T
 files_stay st d R T k is v dir ok l =
     carries (take k (moves_of st d R)) T v
     (allowed_take k (moves_of st d R) T (replaying st d R T is v dir ok).allowed)
-    (clear_below d k (moves_for st (plan R) (carries_of R))
-    (fronts_clear_for st (plan R) (carries_of R) k (rw (sym (length-map (moves_for st (plan R) (carries_of R)) (below d))) l)))
+    (lasts_clear st d R k l)

@@ -1,5 +1,5 @@
 -- Where moves take what stands.
-use Rattle.std.proofs.Common.{◌≡◌, ℕ, suc, zero, List, [], ◌∷◌, ◌++◌, Bool, true, false, cond, Option, Some, None, take, refl, sym, ◌∙◌, ap, ⊎_elim}
+use Rattle.std.proofs.Common.{◌≡◌, ℕ, suc, zero, List, [], ◌∷◌, ◌++◌, Bool, true, false, cond, Option, Some, None, take, refl, sym, ◌∙◌, ap}
 use Rattle.dc_attrs.specs.Attributes.{Attributes, default_dir}
 use Rattle.dc_attrs.specs.Trees.{Dir, File, IsTree, Node, Tree, moved as tree_moved}
 use Rattle.dc_path.specs.Paths.{Names, at_cut, cut, same_path}

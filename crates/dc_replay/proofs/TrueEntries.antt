@@ -105,7 +105,7 @@ plain_valid s T v = record {
       (d.0, plain_at s T p (seen_parts s p (x ∷ []) k.0).0 ∙ d.1);
 }
 
-plain_there : (s : List ℕ) (T : Tree) (p : Names) → IsThere (plain s T) p → IsThere T p
+pub plain_there : (s : List ℕ) (T : Tree) (p : Names) → IsThere (plain s T) p → IsThere T p
 plain_there s T p t = (t.0, (plain_some (has_name s p) (T p) t.0 t.1).1)
 
 plain_dir : (s : List ℕ) (T : Tree) (p : Names) → IsDirAt (plain s T) p → IsDirAt T p

@@ -1,24 +1,28 @@
 -- The definitions say what their words mean.
-use Rattle.std.proofs.Common.{◌≡◌, ◌⊎◌, inl, inr, ⊎_elim, ℕ, ◌+◌, List, [], ◌∷◌, ◌++◌, Bool, true, false, not, ◌&&◌, ◌||◌, Some, None, length, refl, sym, ◌∙◌, ap, subst, arith, append_assoc, length-append}
+use Rattle.std.proofs.Common.{◌≡◌, ◌⊎◌, inl, inr, ⊎_elim, ℕ, ◌+◌, List, [], ◌∷◌, ◌++◌, Bool, true, false, not, ◌&&◌, ◌||◌, Option, Some, None, length, refl, sym, ◌∙◌, ap, subst, arith, append_assoc, length-append}
 use Rattle.std.specs.List.{filter_map, list_any}
 use Rattle.std.proofs.lemmas.List.{append-nil, append_cancel_left}
-use Rattle.std.proofs.lemmas.Bool.{false_from_ne_true, and_from, or_left, or_right}
+use Rattle.std.proofs.lemmas.Bool.{and_parts, false_from_ne_true, and_from, or_cases, or_left, or_right}
 use Rattle.dc_path.specs.Order.{path_lt}
-use Rattle.dc_path.specs.Paths.{Names, cut, same_path}
-use Rattle.dc_path.proofs.PathLemmas.{Last, append-cut, by_last_name, cut-append, empty, ended, last_case, same_ends, same_path-true, not_under}
+use Rattle.dc_path.specs.Paths.{Names, cut, is_above, same_path}
+use Rattle.dc_path.proofs.PathLemmas.{Last, append-cut, by_last_name, cut-append, empty, ended, last_case, same_ends, same_path-refl, same_path-true, not_under}
 use Rattle.dc_report.specs.Apart.{IsReport}
 use Rattle.dc_report.specs.Carrying.{Carried, Carry, Has, Place, Stays, With, carried_by, carrier, carries_of, carry_of, is_fresh, old_lt, place, place_of, plan}
 use Rattle.dc_report.specs.declared.entries.Entry.{Entry}
-use Rattle.dc_report.specs.declared.entries.Entry.TheVariants.{Created, Deleted, Renamed}
+use Rattle.dc_report.specs.declared.entries.Entry.TheVariants.{Created, Deleted, Modified, Renamed}
 use Rattle.dc_report.proofs.Carriers.{place_last, carrier_stays, carrier_rest}
-use Rattle.dc_path.proofs.PathOrder.{cut-longer}
+use Rattle.dc_path.proofs.PathOrder.{cut-longer, is_above-by_cut, is_rest}
 use Rattle.dc_report.proofs.Sorting.{has_sort}
-use Rattle.dc_replay.specs.Words.{IsBelowPlace, IsLongestOld, LeadsByLongest, WordsMean}
-use Rattle.dc_report.proofs.HasLemmas.{any_has, has_filter_map}
+use Rattle.dc_replay.specs.Words.{IsBelowPlace, IsLongestOld, IsParentToMake, LeadsByLongest, TakesModified, WordsMean}
+use Rattle.dc_replay.specs.Truth.{is_listed, takes_modified}
+use Rattle.dc_report.specs.Landings.{is_at}
+use Rattle.dc_replay.proofs.Final.{leads_true}
+use Rattle.dc_replay.specs.Checking.{is_to_be_made, where_to}
+use Rattle.dc_report.proofs.HasLemmas.{any_has, has_any, has_filter_map}
 use Rattle.dc_replay.proofs.Staging.{IsAscending}
 use Rattle.dc_replay.proofs.Where.{by_some, by_none, or_with, or_none}
 use Rattle.dc_report.proofs.WalkLemmas.{fresh_snoc}
-use Rattle.dc_replay.proofs.Allowed.{none_or, verdict_true}
+use Rattle.dc_replay.proofs.Allowed.{above_rest, none_or, verdict_true}
 use Rattle.dc_replay.proofs.Testing.{has_any_path}
 use Rattle.dc_replay.proofs.TrueReport.{any_new, root_fresh}
 use Rattle.dc_replay.proofs.TrueEntries.{carrier_has, renamed_item}
@@ -146,5 +150,50 @@ module _ (R : List Entry) where
   below_fresh : (q : Names) → IsBelowPlace R q → is_fresh (plan R) q ≡ true
   below_fresh q b = ap (is_fresh (plan R)) b.path ∙ below_fresh_at b.created b.top b.has b.goes b.rest (λ a s t x i e. b.alone a s t x i (b.path ∙ e))
 
+-- ---- which parents are to be made
+parent_from : (R : List Entry) (q : Names) → is_to_be_made R q ≡ true → IsParentToMake R q
+parent_from R q h =
+    let k = and_parts (is_fresh (plan R) q) (list_any (λ n. is_above q n.new) (plan R).news) h in
+    let n = any_has (λ n. is_above q n.new) (plan R).news k.1 in
+    let r = above_rest q n.0.new n.2 in
+    record {
+      below = fresh_below R q k.0;
+      old = n.0.old;
+      name = r.name;
+      rest = r.rest;
+      has = subst (λ (u : Names). Has R (Renamed n.0.old u)) r.path (place_renamed R n.0 (news_sound R n.0 n.1));
+    }
+
+parent_to : (R : List Entry) (q : Names) → IsParentToMake R q → is_to_be_made R q ≡ true
+parent_to R q k =
+    let n = renamed_item R k.old (q ++ k.name ∷ k.rest) k.has in
+    and_from (is_fresh (plan R) q) (list_any (λ n. is_above q n.new) (plan R).news) (below_fresh R q k.below)
+    (has_any (λ n. is_above q n.new) (plan R).news n.0 (news_complete R n.0 n.1) (ap (is_above q) n.3 ∙ above_itself))
+  where
+    above_itself : is_above q (q ++ k.name ∷ k.rest) ≡ true
+    above_itself = is_above-by_cut q (q ++ k.name ∷ k.rest) ∙ ap is_rest (cut-append q (k.name ∷ k.rest))
+
+-- ---- what is listed
+taken_by : (R : List Entry) (q : Names) (e : Entry) → Has R e → takes_modified R q e ≡ true → TakesModified R q
+taken_by R q (Deleted p) h k = absurd (cc)
+taken_by R q (Renamed a b) h k = absurd (cc)
+taken_by R q (Created c) h k = absurd (cc)
+taken_by R q (Modified []) h k = absurd (cc)
+taken_by R q (Modified (x ∷ p)) h k = record { name = x; rest = p; has = h; goes = leads_true (where_to R (x ∷ p)) q k }
+
+listed_from : (R : List Entry) (q : Names) → is_listed R q ≡ true → IsBelowPlace R q ⊎ TakesModified R q
+listed_from R q h = ⊎_elim (λ f. inl (fresh_below R q f)) (λ t. let k = any_has (takes_modified R q) R t in inr (taken_by R q k.0 k.1 k.2))
+    (or_cases (is_fresh (plan R) q) (list_any (takes_modified R q) R) h)
+
+listed_to : (R : List Entry) (q : Names) → IsBelowPlace R q ⊎ TakesModified R q → is_listed R q ≡ true
+listed_to R q (inl b) = or_left (is_fresh (plan R) q) (list_any (takes_modified R q) R) (below_fresh R q b)
+listed_to R q (inr t) = or_right (is_fresh (plan R) q) (list_any (takes_modified R q) R)
+    (has_any (takes_modified R q) R (Modified (t.name ∷ t.rest)) t.has (ap (λ (u : Option Names). is_at u q) t.goes ∙ same_path-refl q))
+
 pub words_mean : WordsMean
-words_mean R is = (leads_by_longest R is, λ q. (fresh_below R q, below_fresh R q))
+words_mean R is = record {
+  leads = leads_by_longest R is;
+  fresh = λ q. (fresh_below R q, below_fresh R q);
+  made = λ q. (parent_from R q, parent_to R q);
+  listed = λ q. (listed_from R q, listed_to R q);
+}

@@ -1,11 +1,12 @@
 -- What a report and a tree must meet so that the report can be replayed (HDFS-7535).
 -- R is the report, P its plan, A the tree, st the name of the stage.
-use Rattle.std.specs.Prelude.{ℕ, ◌≡◌, ◌⊎◌, List, [], ◌∷◌, ◌++◌, Bool, true, false, cond, not, Option, Some, None}
+use Rattle.std.specs.Prelude.{ℕ, ◌≡◌, ◌⊎◌, List, [], ◌∷◌, ◌++◌, Bool, true, false, cond, not, ◌||◌, Option, Some, None, is_some}
 use Rattle.std.specs.List.{filter, list_any}
 use Rattle.dc_attrs.specs.Trees.{IsDirAt, Tree, IsThere}
 use Rattle.dc_path.specs.Names.{same_name}
 use Rattle.dc_path.specs.Paths.{Names, same_path}
 use Rattle.dc_report.specs.Carrying.{Carry, Has, Place, Plan, carries_of, is_made, moved, place, plan}
+use Rattle.dc_report.specs.Writing.{paths_of}
 use Rattle.dc_replay.specs.Arrivals.{source}
 use Rattle.dc_report.specs.declared.entries.Entry.{Entry}
 use Rattle.dc_report.specs.declared.entries.Entry.TheVariants.{Created, Deleted, Modified, Renamed}
@@ -82,3 +83,18 @@ pub record IsStageFree (st : List ℕ) (R : List Entry) (A : Tree) : Type 0 wher
   pub stage : A (st ∷ []) ≡ None
   pub deleted : (p : Names) → Has R (Deleted p) → IsOff st p
   pub renamed : (a b : Names) → Has R (Renamed a b) → IsOff st a × IsOff st b
+
+-- ---- the test of the stage
+-- the path begins with the name
+abbrev pub begins_with : List ℕ → Names → Bool
+begins_with name [] = false
+begins_with name (x ∷ p) = same_name name x
+
+-- nothing stands at the stage, and no path of the report begins with its name
+abbrev pub is_stage_free : List ℕ → List Entry → Tree → Bool
+is_stage_free st R A = not (is_some (A (st ∷ [])) || list_any (λ entry. list_any (begins_with st) (paths_of entry)) R)
+
+-- the same in words
+pub record IsStageUnused (st : List ℕ) (R : List Entry) (A : Tree) : Type 0 where
+  pub stage : A (st ∷ []) ≡ None
+  pub unnamed : (entry : Entry) (rest : Names) → Has R entry → Has (paths_of entry) (st ∷ rest) → ⊥

@@ -5,5 +5,8 @@ pub mod Checking
 pub mod Tests
 pub mod Refused
 pub mod Truth
+pub mod TestAnswers
+pub mod Limits
+pub mod ListingTests
 pub mod Words
 pub mod Replaying

@@ -54,12 +54,13 @@ HasSameKinds snap A O = (p : Names) → kind (plain snap A p) ≡ kind (O p)
 abbrev pub KeepsNodes : List Entry → Tree → Tree → Type 0
 KeepsNodes R O N = (p q : Names) (x : Node) → (Has R (Modified p) → ⊥) → (p ≡ [] → ⊥) → O p ≡ Some x → where_to R p ≡ Some q → N q ≡ Some x
 
--- something modified goes to the path
+-- something modified goes to the path; the root that is modified is passed over
 abbrev pub takes_modified : List Entry → Names → Entry → Bool
 takes_modified R q (Deleted p) = false
 takes_modified R q (Renamed a b) = false
 takes_modified R q (Created c) = false
-takes_modified R q (Modified p) = is_at (where_to R p) q
+takes_modified R q (Modified []) = false
+takes_modified R q (Modified (x ∷ p)) = is_at (where_to R (x ∷ p)) q
 
 -- what a copy with the report lists: what is new, and where what is modified goes
 abbrev pub is_listed : List Entry → Names → Bool
@@ -68,6 +69,12 @@ is_listed R q = is_fresh (plan R) q || list_any (takes_modified R q) R
 -- the tree with what is listed and stands in the later snapshot copied from there
 abbrev pub with_listed : List Entry → Tree → Tree → Tree
 with_listed R N X q = cond (is_listed R q) (option_or (N q) (X q)) (X q)
+
+-- What the listing with a report looks for in the later tree stands there: where what is modified goes, and the places of
+-- what is created.
+pub record IsListable (R : List Entry) (N : Tree) : Type 0 where
+  pub modified : (x : List ℕ) (p q : Names) → Has R (Modified (x ∷ p)) → where_to R (x ∷ p) ≡ Some q → IsThere N q
+  pub created : (c q : Names) → Has R (Created c) → place (carries_of R) c ≡ Some q → IsThere N q
 
 -- a test that tells which nodes count as the same: no file counts as a directory
 pub record IsLikeness (like : Node → Node → Bool) : Type 0 where
@@ -84,3 +91,13 @@ are_alike like (Some x) (Some y) = like x y
 -- without hidden paths two trees are the same at each path but the root
 abbrev pub AreAlike : (Node → Node → Bool) → List ℕ → Tree → Tree → Type 0
 AreAlike like snap A B = (p : Names) → (p ≡ [] → ⊥) → are_alike like (plain snap A p) (plain snap B p) ≡ true
+
+-- Y is what a copy with the report may make of X. Hidden paths and the root are left open. Where N has what is listed, Y has
+-- what counts as the same, and at every other path what X has.
+pub record IsCopied (like : Node → Node → Bool) (snap : List ℕ) (R : List Entry) (N X Y : Tree) : Type 0 where
+  -- what is not listed is as it was
+  pub off : (q : Names) → (q ≡ [] → ⊥) → has_name snap q ≡ false → is_listed R q ≡ false → Y q ≡ X q
+  -- and so is what N does not have
+  pub absent : (q : Names) → (q ≡ [] → ⊥) → has_name snap q ≡ false → N q ≡ None → Y q ≡ X q
+  -- what is listed counts as what N has
+  pub listed : (q : Names) (x : Node) → (q ≡ [] → ⊥) → has_name snap q ≡ false → is_listed R q ≡ true → N q ≡ Some x → are_alike like (Y q) (Some x) ≡ true

@@ -25,3 +25,4 @@ pub mod WalkLemmas
 pub mod MovesOf
 pub mod PlaceSets
 pub mod LimitLemmas
+pub mod FittingLemmas

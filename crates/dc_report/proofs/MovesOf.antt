@@ -1,5 +1,5 @@
 -- The moves of a report, put together.
-use Rattle.std.proofs.Common.{◌≡◌, inl, inr, List, [], ◌∷◌, ◌++◌, None, refl, sym, ◌∙◌, ap, ap₂, subst, append_assoc}
+use Rattle.std.proofs.Common.{◌≡◌, List, [], ◌∷◌, ◌++◌, None, refl, ◌∙◌, ap, ap₂, subst, append_assoc}
 use Rattle.std.specs.BTreeSet.{contains}
 use Rattle.std.specs.List.{filter_map, list_any}
 use Rattle.dc_path.specs.Paths.{Names, IsPath, path_cmp, same_path}
@@ -8,28 +8,20 @@ use Rattle.dc_report.specs.Landings.{NewsDiffer, landings_moves, landings_of}
 use Rattle.dc_report.specs.Moves.{moves, stage_name, staging}
 use Rattle.dc_report.specs.Told.{AreTold}
 use Rattle.dc_report.specs.declared.entries.Entry.{Entry}
-use Rattle.dc_report.specs.declared.entries.Entry.TheVariants.{Created, Deleted, Modified, Renamed}
+use Rattle.dc_report.specs.declared.entries.Entry.TheVariants.{Renamed}
 use Rattle.dc_report.specs.declared.entries.Move.{Move}
 use Rattle.dc_report.specs.declared.entries.Move.TheVariants.{Clear, Make}
 use Rattle.dc_report.specs.declared.moves.Ground.{Ground}
 use Rattle.dc_report.proofs.LandingLemmas.{item_from, items_sorted, renamed_in}
 use Rattle.dc_report.proofs.Sorting.{sort_has}
+use Rattle.dc_report.proofs.ToldApart.{told_entry}
 use Rattle.dc_report.proofs.WalkLemmas.{IsGround, landing_known, landings_are}
 
--- a new path that was told is within the limits
-told_new : (before R : List Entry) (a b : Names) → AreTold before R → Has R (Renamed a b) → IsPath b
-told_new before [] a b t h = absurd h
-told_new before (Created p ∷ R) a b t (inl e) = absurd (cc)
-told_new before (Deleted p ∷ R) a b t (inl e) = absurd (cc)
-told_new before (Modified p ∷ R) a b t (inl e) = absurd (cc)
-told_new before (Renamed p q ∷ R) a b t (inl e) = let f : b ≡ q = cc in subst IsPath (sym f) t.0.0.1.0.limits
-told_new before (entry ∷ R) a b t (inr h) = told_new (before ++ entry ∷ []) R a b t.1 h
-
--- so are the new paths of items
+-- the new paths of items are within the limits
 item_within : (R : List Entry) (n : Place) → AreTold [] R → Has (sort_by new_gt (items_of (carries_of R))) n → IsPath n.new
 item_within R n t h =
     let i = item_from (carries_of R) n (sort_has new_gt (items_of (carries_of R)) n h) in
-    told_new [] R i.0.old n.new t (renamed_in R i.0 n.new (sort_has old_lt (filter_map carry_of R) i.0 i.1) i.2)
+    (told_entry [] R (Renamed i.0.old n.new) t (renamed_in R i.0 n.new (sort_has old_lt (filter_map carry_of R) i.0 i.1) i.2)).1.0.limits
 
 module _ (R : List Entry) (g : Ground) (cs : List Carry) (told : AreTold [] R) (carries : cs ≡ carries_of R) (apart : NewsDiffer cs) (landings : g.landings.entries ≡ landings_of cs)
     (places : (q : Names) → IsPath q → contains path_cmp g.places q ≡ list_any (λ c. same_path c q) (filter_map (place_of cs) R)) where

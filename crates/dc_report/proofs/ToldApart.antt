@@ -1,12 +1,13 @@
 -- Entries that a text can tell take no path twice, give none twice, and have no name of snapshots.
 use Rattle.std.proofs.Common.{◌≡◌, inl, inr, ℕ, List, [], ◌∷◌, ◌++◌, Bool, true, false, cond, not, ◌&&◌, ◌||◌, Option, Some, None, codes, refl, sym, subst, ◌∙◌, ap, arith}
 use Rattle.std.proofs.lemmas.Bool.{and_parts}
-use Rattle.std.specs.List.{list_all, list_any}
+use Rattle.std.specs.List.{filter_map, list_all, list_any}
 use Rattle.dc_path.specs.Names.{same_name}
-use Rattle.dc_path.specs.Paths.{Names, same_path}
+use Rattle.dc_path.specs.Paths.{IsWithin, Names, same_path}
 use Rattle.dc_path.proofs.PathLemmas.{same_path-refl, same_name-flip}
 use Rattle.dc_report.specs.Apart.{HasOld, IsReport, OldsDiffer, is_old}
-use Rattle.dc_report.specs.Carrying.{Has}
+use Rattle.dc_report.specs.Carries.{OldsFit, carry_to}
+use Rattle.dc_report.specs.Carrying.{Carry, Has, carries_of, carry_of, old_lt}
 use Rattle.dc_report.specs.declared.entries.Entry.{Entry}
 use Rattle.dc_report.specs.declared.entries.Entry.TheVariants.{Created, Deleted, Modified, Renamed}
 use Rattle.dc_report.specs.declared.report.ReportError.{ReportError}
@@ -16,6 +17,10 @@ use Rattle.dc_report.specs.Reports.{double_of, gives, takes}
 use Rattle.dc_report.specs.Told.{AreTold, HasNoName, IsTold}
 use Rattle.dc_report.specs.Writing.{paths_of}
 use Rattle.dc_report.proofs.KnownLemmas.{push_any}
+use Rattle.dc_report.proofs.HasLemmas.{filter_map_has}
+use Rattle.dc_report.proofs.Sorting.{sort_has}
+use Rattle.dc_path.proofs.LimitLemmas.{path_within}
+use Rattle.std.proofs.lemmas.Option.{same_Some}
 
 -- ---- no fault, no earlier entry
 no_fault : (b : Bool) (e : ReportError) (o : Option ReportError) → cond b (Some e) o ≡ None → (b ≡ false) × (o ≡ None)
@@ -107,3 +112,20 @@ plain_from before (d ∷ es) t e p (inr h) k = plain_from (before ++ d ∷ []) e
 
 pub told_plain : (R : List Entry) → AreTold [] R → HasNoName (codes ".snapshot") R
 told_plain R t = plain_from [] R t
+
+-- ---- each entry by itself
+-- each entry may stand in a report
+pub told_entry : (before R : List Entry) (entry : Entry) → AreTold before R → Has R entry → IsTold entry
+told_entry before [] entry t h = absurd h
+told_entry before (e ∷ R) entry t (inl i) = subst IsTold (sym i) t.0.0
+told_entry before (e ∷ R) entry t (inr h) = told_entry (before ++ e ∷ []) R entry t.1 h
+
+-- each path that is deleted or renamed is within the limits
+pub olds_fit : (R : List Entry) → AreTold [] R → OldsFit (carries_of R)
+olds_fit R t c h = let e = filter_map_has carry_of R c (sort_has old_lt (filter_map carry_of R) c h) in by_entry e.0 (told_entry [] R e.0 t e.1) e.2
+  where
+    by_entry : (e : Entry) → IsTold e → carry_of e ≡ Some c → IsWithin c.old
+    by_entry (Deleted p) k i = let f : p ≡ c.old = ap (λ (d : Carry). d.old) (same_Some (carry_to p None) c i) in subst IsWithin f (path_within p k.0.limits)
+    by_entry (Renamed a b) k i = let f : a ≡ c.old = ap (λ (d : Carry). d.old) (same_Some (carry_to a (Some b)) c i) in subst IsWithin f (path_within a k.0.0.limits)
+    by_entry (Created p) k i = absurd (cc)
+    by_entry (Modified p) k i = absurd (cc)

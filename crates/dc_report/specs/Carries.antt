@@ -1,8 +1,8 @@
 -- The map from old paths to new ones: words for private functions.
-use Rattle.std.specs.Prelude.{List, map, Option, None, Some}
+use Rattle.std.specs.Prelude.{◌≡◌, ℕ, List, [], ◌∷◌, ◌++◌, map, Option, None, Some}
 use Rattle.std.specs.Borrow.{Bor}
-use Rattle.dc_path.specs.Paths.{Names}
-use Rattle.dc_report.specs.Carrying.{Carried, Carry, Stays, With}
+use Rattle.dc_path.specs.Paths.{IsWithin, Names}
+use Rattle.dc_report.specs.Carrying.{Carried, Carry, Has, Stays, With}
 
 -- an old path, and where to
 abbrev pub carry_to : Names → Option Names → Carry
@@ -21,3 +21,14 @@ hit_of (With c rest) = Some (c.old, c.new)
 abbrev pub found : Option (Names × Bor (Option Names)) → Option (Names × Option Names)
 found None = None
 found (Some hit) = Some (hit.0, hit.1.now)
+
+-- ---- names that may pass the limits of a path
+-- the longest front of the names that is within the limits
+pub record IsFitting (front names : Names) : Type 0 where
+  pub rest : Names
+  pub path : names ≡ front ++ rest
+  pub longest : (x : List ℕ) (r : Names) → rest ≡ x ∷ r → IsWithin (front ++ x ∷ []) → ⊥
+
+-- each path that is deleted or renamed is within the limits
+abbrev pub OldsFit : List Carry → Type 0
+OldsFit cs = (c : Carry) → Has cs c → IsWithin c.old

@@ -57,9 +57,13 @@ abbrev pub moves_for : List ℕ → Plan → List Carry → List Move
 moves_for stage P [] = []
 moves_for stage P (c ∷ cs) = moves stage P
 
+-- the moves of a report below the root
+abbrev pub root_moves : List ℕ → List Entry → List Move
+root_moves stage R = moves_for stage (plan R) (carries_of R)
+
 -- the moves of a report below the base d
 abbrev pub moves_of : List ℕ → Names → List Entry → List Move
-moves_of stage d R = map (below d) (moves_for stage (plan R) (carries_of R))
+moves_of stage d R = map (below d) (root_moves stage R)
 
 -- the paths of a move, `from` before `to`
 abbrev pub paths_in : Move → List Names

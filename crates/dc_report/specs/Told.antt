@@ -1,4 +1,4 @@
--- Entries that a text can tell.
+-- Entries that a text can tell, but that a name may hold a line feed, which no line does.
 use Rattle.std.specs.Prelude.{◌≡◌, ℕ, true, false, List, [], ◌∷◌, ◌++◌, None}
 use Rattle.std.specs.List.{list_all, list_any}
 use Rattle.dc_path.specs.Names.{same_name}

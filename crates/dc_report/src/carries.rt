@@ -15,8 +15,8 @@ use std::collections::BTreeMap;
 /// Each path that is deleted or renamed, and the path that it is renamed to; `None` where it is deleted.
 pub type Carries = BTreeMap<Path, Option<Path>>;
 
-// The longest prefix of a path that is deleted or renamed, and where to.
-fn carrier<'a>(
+/// The longest prefix of a path that is deleted or renamed, and where to. `OutOfMemory` is the one error.
+pub fn carrier<'a>(
     carries: &'a Carries,
     alloc: Global,
     path: &Path,

@@ -13,6 +13,7 @@ pub mod laws;
 mod lines;
 mod moves;
 mod report;
+mod unlimited;
 mod writing;
 
 pub use entries::{Entry, Move};

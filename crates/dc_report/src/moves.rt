@@ -13,11 +13,12 @@ ghost use Rattle.dc_path.specs.declared.path.PathError.TheVariants.{Memory};
 ghost use Rattle.dc_report.specs.Carries.{carries_in};
 ghost use Rattle.dc_report.specs.Carrying.{carries_of, place_of, plan};
 ghost use Rattle.dc_report.specs.Landings.{landings_of, NewsDiffer, landed, is_at, is_above_last, is_fresh_at, made_along, landings_moves};
-ghost use Rattle.dc_report.specs.Moves.{label_of, limited_move, limited_moves, below, moves, moves_of, stage_name, staging};
+ghost use Rattle.dc_report.specs.Moves.{label_of, limited_move, limited_moves, below, moves, moves_of, root_moves, stage_name, staging};
 ghost use Rattle.dc_report.specs.Told.{AreTold};
 ghost use Rattle.dc_report.specs.declared.entries.Move.TheVariants.{Make, Shift};
 
 use crate::carries::{Carries, place};
+use crate::unlimited::no_memory;
 use crate::{Entry, Move};
 use dc_path::{List, Name, OutOfMemory, Path, PathError};
 use std::alloc::Global;
@@ -130,16 +131,6 @@ fn stage_all(
         label += 1;
     }
     Ok(landings)
-}
-
-// Whether memory ran out.
-fn no_memory(error: PathError) -> Result<(), OutOfMemory>
-    ensures { OnOk result (error ≢ Memory) }
-{
-    match error {
-        PathError::Memory => Err(OutOfMemory),
-        _ => Ok(()),
-    }
 }
 
 // Adds the place of what an entry creates, unless it passes the limits of a path.
@@ -258,7 +249,7 @@ fn land_all(
     Ok(())
 }
 
-// The moves of a report below the root.
+// The moves of a report that deletes or renames something, below the root.
 fn moves_from(
     alloc: Global,
     entries: &List<Entry>,
@@ -314,6 +305,22 @@ fn moves_below(alloc: Global, base: &Path, steps: &List<Move>) -> Result<List<Mo
     Ok(moves)
 }
 
+/// The moves of a report below the root; none where nothing is deleted or renamed. `OutOfMemory` is the one error.
+pub fn root_moves(
+    alloc: Global,
+    entries: &List<Entry>,
+    carries: &Carries,
+) -> Result<List<Move>, OutOfMemory>
+    requires told { AreTold [] entries.now }
+    requires carries { carries_in carries.now.entries ≡ carries_of entries.now }
+    ensures { IfOk result (λ steps. steps ≡ root_moves stage_name entries.now) }
+{
+    if carries.len() == 0 {
+        return Ok(List::new(alloc));
+    }
+    moves_from(alloc, entries, carries)
+}
+
 /// The moves of a report below a base; none where nothing is deleted or renamed.
 ///
 /// # Errors
@@ -331,9 +338,6 @@ pub fn report_moves(
     requires carries { carries_in carries.now.entries ≡ carries_of entries.now }
     ensures { GivesUnless Memory result (limited_moves (moves_of stage_name base.now entries.now)) }
 {
-    if carries.len() == 0 {
-        return Ok(List::new(alloc));
-    }
-    let steps = moves_from(alloc, entries, carries)?;
+    let steps = root_moves(alloc, entries, carries)?;
     moves_below(alloc, base, &steps)
 }

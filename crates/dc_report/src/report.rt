@@ -10,7 +10,7 @@ ghost use Rattle.dc_path.specs.declared.path.PathError.TheVariants.{Memory as La
 ghost use Rattle.dc_report.specs.Apart.{IsReport};
 ghost use Rattle.dc_report.specs.Carries.{carries_in};
 ghost use Rattle.dc_report.specs.Carrying.{carries_of, limited, moved, place};
-ghost use Rattle.dc_report.specs.Moves.{limited_moves, moves_of, stage_name};
+ghost use Rattle.dc_report.specs.Moves.{limited_moves, moves_of, root_moves, stage_name};
 ghost use Rattle.dc_report.specs.Told.{AreTold, HasNoName};
 ghost use Rattle.dc_report.specs.Writing.{written};
 ghost use Rattle.dc_report.specs.Grammar.{entry_from};
@@ -21,10 +21,11 @@ use crate::carries::{Carries, moved, place};
 use crate::grammar::{is_heading, read_entry};
 use crate::known::Known;
 use crate::lines::without_end;
-use crate::moves::report_moves;
+use crate::moves::{report_moves, root_moves};
+use crate::unlimited::{moved_names, place_names};
 use crate::writing::{WriteReportError, write_entries};
 use crate::{Entry, Move};
-use dc_path::{List, OutOfMemory, Path, PathError, Text, first_line};
+use dc_path::{List, Name, OutOfMemory, Path, PathError, Text, first_line};
 use std::alloc::Global;
 use std::marker::Model;
 
@@ -153,7 +154,8 @@ impl Report {
         Ok(Report { entries, carries })
     }
 
-    /// The entries, in the order of their lines. They are entries that a text can tell.
+    /// The entries, in the order of their lines. They are entries that a text can tell, but for one thing: no clause says
+    /// that a name holds no line feed.
     pub fn entries(&self) -> &List<Entry>
         ensures entries { result.now ≡ self.now }
         ensures told { AreTold [] self.now }
@@ -189,6 +191,39 @@ impl Report {
         ensures { GivesUnless Lacking result (limited (place (carries_of self.now) created.now)) }
     {
         place(&self.carries, alloc, created)
+    }
+
+    /// Where the path of these names goes, as `moved` says of a path. Neither the names nor the answer need fit into a path.
+    /// `OutOfMemory` is the one error.
+    pub fn moved_names(
+        &self,
+        alloc: Global,
+        names: &[Name],
+    ) -> Result<Option<List<Name>>, OutOfMemory>
+        ensures { IfOk result (λ to. to ≡ moved (carries_of self.now) names.now) }
+    {
+        moved_names(&self.carries, alloc, names)
+    }
+
+    /// Where what is created at a path stands, as `place` says, but as names, which need not fit into a path. `OutOfMemory` is
+    /// the one error.
+    pub fn place_names(
+        &self,
+        alloc: Global,
+        created: &Path,
+    ) -> Result<Option<List<Name>>, OutOfMemory>
+        ensures { IfOk result (λ to. to ≡ place (carries_of self.now) created.now) }
+    {
+        place_names(&self.carries, alloc, created)
+    }
+
+    /// The moves that replay the report on a tree whose root is the directory of the report: those of `moves`, with the root
+    /// as the base. So where `moves` is refused, its first path that passes a limit can be found and named. `OutOfMemory` is
+    /// the one error.
+    pub fn root_moves(&self, alloc: Global) -> Result<List<Move>, OutOfMemory>
+        ensures { IfOk result (λ moves. moves ≡ root_moves stage_name self.now) }
+    {
+        root_moves(alloc, &self.entries, &self.carries)
     }
 
     /// The moves that replay the report on the tree below a base; none where nothing is deleted or renamed.

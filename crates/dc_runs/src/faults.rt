@@ -1,12 +1,12 @@
 //! Runs in which one entry of a list makes calls fail, against a plain account of the calls that a run makes.
 #![tactic(auto)]
 
-use crate::entries::{Entry, Is, is_planted, planted};
-use crate::runs::{Ran, landed_files, run_on};
+use crate::runs::{Ran, has_landed, run_on};
+use crate::trees::{is_tree_of, path, tree_of};
 use dc_attrs::TreeError;
-use dc_cli::{Counts, Outcome, Phase};
+use dc_engine::{Counts, Outcome, Phase};
 use dc_memfs::{Fail, Fails, MemSource, MemTarget, Which};
-use dc_path::{List, OutOfMemory};
+use dc_path::{List, OutOfMemory, Path};
 use dc_tree::MemTree;
 use std::alloc::Global;
 use std::test;
@@ -16,6 +16,7 @@ use std::thread::Threads;
 #[derive(Clone, Copy, PartialEq, Eq)]
 enum On {
     Source,
+    Fork,
     Target,
     Desk,
 }
@@ -26,28 +27,29 @@ enum End {
     Committed,
     SourceFault,
     TargetFault(Phase, u64),
+    CopyFailed(&'static str),
 }
 
-// A call of a run: whose it is, its kind, and how the run ends where it fails.
+// A call of a run: whose it is, its kind, and how the run ends where it fails, or where it and all later ones of a worker fail.
 type Step = (On, Which, End);
 
-const SOURCE: [Entry; 4] = [
-    ("/s", Is::Dir),
-    ("/s/a", Is::File("1")),
-    ("/s/b", Is::File("22")),
-    ("/s/e", Is::Dir),
+const SOURCE: &str = "/s /s/a=1!8 /s/b=22!8 /s/e";
+
+const WORDS: &str = "-m 1 -pb /s /d";
+
+// The target, after so many changes.
+const TREES: [&str; 7] = [
+    "-",
+    "/d",
+    "/d /d/e",
+    "/d /d/e /d/a=1",
+    "/d /d/e /d/a=1 /d/b=22",
+    "/d /d/e /d/a=1!8 /d/b=22",
+    "/d /d/e /d/a=1!8 /d/b=22!8",
 ];
 
-// What a run leaves, in the order in which it comes.
-const COPY: [Entry; 4] = [
-    ("/d", Is::Dir),
-    ("/d/e", Is::Dir),
-    ("/d/a", Is::File("1")),
-    ("/d/b", Is::File("22")),
-];
-
-// The files that land, with their bytes.
-const FILES: [(&str, u64); 2] = [("/d/a", 1), ("/d/b", 2)];
+// What has landed, after so many files.
+const LANDED: [&str; 3] = ["", "/d/a=1", "/d/a=1 /d/b=2"];
 
 const COUNTS: Counts = Counts {
     copied: 2,
@@ -58,33 +60,75 @@ const COUNTS: Counts = Counts {
     bytes_skipped: 0,
 };
 
-const IN_CHECK: End = End::TargetFault(Phase::Check, 0);
+const IN_DECIDE: End = End::TargetFault(Phase::Decide, 0);
 
-const IN_COPY: End = End::TargetFault(Phase::Copy, 0);
+const FIRST: End = End::CopyFailed("/a");
+
+const SECOND: End = End::CopyFailed("/b");
 
 // The calls of a run that goes through.
-const STEPS: [Step; 21] = [
+const STEPS: [Step; 33] = [
+    (On::Target, Which::Kind, End::TargetFault(Phase::Check, 0)),
     (On::Source, Which::Kind, End::SourceFault),
-    (On::Target, Which::Kind, IN_CHECK),
+    (On::Source, Which::Status, End::SourceFault),
     (On::Source, Which::List, End::SourceFault),
-    (On::Source, Which::Kind, End::SourceFault),
-    (On::Source, Which::Kind, End::SourceFault),
-    (On::Source, Which::Kind, End::SourceFault),
+    (On::Source, Which::Status, End::SourceFault),
+    (On::Source, Which::Status, End::SourceFault),
+    (On::Source, Which::Status, End::SourceFault),
     (On::Source, Which::List, End::SourceFault),
-    (On::Target, Which::OpenDesk, IN_COPY),
-    (On::Desk, Which::Create, IN_COPY),
-    (On::Source, Which::Read, End::SourceFault),
-    (On::Desk, Which::Append, IN_COPY),
-    (On::Desk, Which::Seal, IN_COPY),
-    (On::Desk, Which::Create, IN_COPY),
-    (On::Source, Which::Read, End::SourceFault),
-    (On::Desk, Which::Append, IN_COPY),
-    (On::Desk, Which::Seal, IN_COPY),
+    (On::Target, Which::Kind, IN_DECIDE),
+    (On::Target, Which::Kind, IN_DECIDE),
+    (On::Target, Which::Kind, IN_DECIDE),
+    (
+        On::Target,
+        Which::OpenDesk,
+        End::TargetFault(Phase::Copy, 0),
+    ),
+    (On::Desk, Which::Create, FIRST),
+    (On::Fork, Which::Read, FIRST),
+    (On::Desk, Which::Append, FIRST),
+    (On::Desk, Which::Digest, FIRST),
+    (On::Desk, Which::Seal, FIRST),
+    (On::Desk, Which::Create, SECOND),
+    (On::Fork, Which::Read, SECOND),
+    (On::Desk, Which::Append, SECOND),
+    (On::Desk, Which::Digest, SECOND),
+    (On::Desk, Which::Seal, SECOND),
     (On::Target, Which::MakeDir, End::TargetFault(Phase::Dirs, 0)),
     (On::Target, Which::MakeDir, End::TargetFault(Phase::Dirs, 1)),
     (On::Target, Which::Land, End::TargetFault(Phase::Land, 0)),
     (On::Target, Which::Land, End::TargetFault(Phase::Land, 1)),
     (On::Target, Which::Sweep, End::TargetFault(Phase::Sweep, 0)),
+    (
+        On::Target,
+        Which::Kind,
+        End::TargetFault(Phase::FileAttrs, 0),
+    ),
+    (
+        On::Target,
+        Which::SetAttrs,
+        End::TargetFault(Phase::FileAttrs, 0),
+    ),
+    (
+        On::Target,
+        Which::Kind,
+        End::TargetFault(Phase::FileAttrs, 1),
+    ),
+    (
+        On::Target,
+        Which::SetAttrs,
+        End::TargetFault(Phase::FileAttrs, 1),
+    ),
+    (
+        On::Target,
+        Which::Kind,
+        End::TargetFault(Phase::DirAttrs, 0),
+    ),
+    (
+        On::Target,
+        Which::SetAttrs,
+        End::TargetFault(Phase::DirAttrs, 0),
+    ),
 ];
 
 const KINDS: [Which; 17] = [
@@ -132,14 +176,15 @@ impl Watch {
     }
 }
 
-// What a run comes to: how it ends, how many entries of the copy stand, how many of them are files that have landed, and
-// how many temporaries are left.
+// What a run comes to: how it ends, how many changes of the target were made, how many files have landed, how many
+// temporaries are left, and whether a call has failed.
 #[derive(Clone, Copy)]
 struct Account {
     end: End,
-    standing: usize,
+    changes: usize,
     landed: usize,
     scratch: u64,
+    failed: bool,
 }
 
 impl Account {
@@ -147,9 +192,9 @@ impl Account {
     fn goes(&mut self, which: Which) {
         match which {
             Which::Create => self.scratch = self.scratch.saturating_add(1),
-            Which::MakeDir => self.standing = self.standing.saturating_add(1),
+            Which::MakeDir | Which::SetAttrs => self.changes = self.changes.saturating_add(1),
             Which::Land => {
-                self.standing = self.standing.saturating_add(1);
+                self.changes = self.changes.saturating_add(1);
                 self.landed = self.landed.saturating_add(1);
                 self.scratch = self.scratch.saturating_sub(1);
             }
@@ -158,17 +203,30 @@ impl Account {
         }
     }
 
-    // A call fails, and the run ends. Once files are copied it tries a last sweep.
+    // A call fails, and the run ends. From the decisions on it tries a last sweep.
     fn stops(&mut self, step: &Step, done: bool, watch: &mut Watch) {
         let (_, which, end) = *step;
         self.end = end;
-        if done && which == Which::MakeDir {
+        if done && (which == Which::MakeDir || which == Which::SetAttrs) {
             self.goes(which);
         }
-        let looks = which == Which::Kind || which == Which::List;
+        let looks = end == End::SourceFault || end == End::TargetFault(Phase::Check, 0);
         if !looks && watch.strikes(On::Target, Which::Sweep).is_none() {
             self.goes(Which::Sweep);
         }
+    }
+
+    // A call fails. A worker makes it good, unless all its later calls fail too.
+    fn fails(&mut self, step: &Step, done: bool, watch: &mut Watch) -> bool {
+        self.failed = true;
+        let worker = step.0 == On::Fork || step.0 == On::Desk;
+        let good = worker && !watch.fail.then_all;
+        if good {
+            self.goes(step.1);
+        } else {
+            self.stops(step, done, watch);
+        }
+        good
     }
 }
 
@@ -177,29 +235,38 @@ fn account_of(on: On, fail: Fail) -> Account {
     let mut watch = Watch { on, fail, seen: 0 };
     let mut account = Account {
         end: End::Committed,
-        standing: 0,
+        changes: 0,
         landed: 0,
         scratch: 0,
+        failed: false,
     };
     for step in &STEPS {
         match watch.strikes(step.0, step.1) {
             None => account.goes(step.1),
             Some(done) => {
-                account.stops(step, done, &mut watch);
-                break;
+                if !account.fails(step, done, &mut watch) {
+                    break;
+                }
             }
         }
     }
     account
 }
 
+// Whether the path of a text is this.
+fn is_path(alloc: Global, text: &str, found: &Path) -> Result<bool, TreeError> {
+    let path = path(alloc, text)?;
+    Ok(path.starts_with(found) && found.starts_with(&path))
+}
+
 // Whether a run ended so.
-fn ends_as(outcome: &Outcome, end: End) -> bool {
-    match outcome {
-        Outcome::Committed => end == End::Committed,
-        Outcome::SourceFault => end == End::SourceFault,
-        Outcome::TargetFault { phase, done } => end == End::TargetFault(*phase, *done),
-        _ => false,
+fn ends_as(alloc: Global, outcome: &Outcome, end: End) -> Result<bool, TreeError> {
+    match (outcome, end) {
+        (Outcome::CopyFailed { path }, End::CopyFailed(text)) => is_path(alloc, text, path),
+        (Outcome::Committed, _) => Ok(end == End::Committed),
+        (Outcome::SourceFault, _) => Ok(end == End::SourceFault),
+        (Outcome::TargetFault { phase, done }, _) => Ok(end == End::TargetFault(*phase, *done)),
+        _ => Ok(false),
     }
 }
 
@@ -209,15 +276,14 @@ fn came_to(alloc: Global, ran: &Ran, account: &Account) -> Result<bool, TreeErro
         End::Committed => COUNTS,
         _ => Counts::NONE,
     };
-    let answered = ends_as(&ran.answer.outcome, account.end)
-        && ran.answer.counts == counts
-        && ran.target.scratch() == account.scratch;
-    let standing = account.standing.min(COPY.len());
-    let landed = account.landed.min(FILES.len());
+    let answered = ran.answer.counts == counts && ran.target.scratch() == account.scratch;
+    let left = TREES[account.changes.min(TREES.len() - 1)];
+    let landed = LANDED[account.landed.min(LANDED.len() - 1)];
     Ok(
         answered
-            && is_planted(alloc, ran.target.tree(), &COPY[..standing])?
-            && landed_files(alloc, ran, &FILES[..landed])?,
+            && ends_as(alloc, &ran.answer.outcome, account.end)?
+            && is_tree_of(alloc, ran.target.tree(), left)?
+            && has_landed(alloc, ran, landed)?,
     )
 }
 
@@ -225,7 +291,7 @@ fn came_to(alloc: Global, ran: &Ran, account: &Account) -> Result<bool, TreeErro
 fn list_of(alloc: Global, has: bool, fail: Fail) -> Result<Fails, OutOfMemory> {
     let mut list = List::new(alloc);
     if has {
-        list.push(fail).map_err(|_| OutOfMemory)?;
+        list.add(fail)?;
     }
     Ok(Fails::new(alloc, list))
 }
@@ -247,10 +313,10 @@ fn run_failing<R: Threads + Sync>(
     fail: Fail,
 ) -> Result<Ran, TreeError> {
     let own = list_of(alloc, on == On::Source, fail)?;
-    let forks = Fails::none(alloc);
+    let forks = list_of(alloc, on == On::Fork, fail)?;
     let mut source = MemSource::new(tree, &own, &forks);
     let target = failing_target(alloc, on, fail)?;
-    run_on(rt, alloc, &mut source, target, "/s /d", None)
+    run_on(rt, alloc, &mut source, target, WORDS, None)
 }
 
 // Whether the run with this entry in the list of this object comes to what the account says.
@@ -267,7 +333,7 @@ fn comes_to<R: Threads + Sync>(
 }
 
 // Whether the runs come to their accounts in which the first, the second, and so on of the calls of a kind fail, up to the
-// first that commits.
+// first in which none does.
 fn each_call<R: Threads + Sync>(
     rt: &R,
     alloc: Global,
@@ -281,7 +347,7 @@ fn each_call<R: Threads + Sync>(
         if !comes_to(rt, alloc, tree, on, fail, &account)? {
             return Ok(false);
         }
-        if account.end == End::Committed {
+        if !account.failed {
             return Ok(true);
         }
     }
@@ -310,27 +376,47 @@ fn each_way<R: Threads + Sync>(
     Ok(true)
 }
 
-// The same for the calls of each kind on one object.
-fn each_kind<R: Threads + Sync>(
+// The kind of call on an object of which a run from this tree does not come to its account.
+fn first_wrong_from<R: Threads + Sync>(
     rt: &R,
     alloc: Global,
     tree: &MemTree,
     on: On,
-) -> Result<bool, TreeError> {
-    for which in KINDS {
-        if !each_way(rt, alloc, tree, on, which)? {
-            return Ok(false);
+) -> Result<Option<Which>, TreeError> {
+    for which in &KINDS {
+        if !each_way(rt, alloc, tree, on, *which)? {
+            return Ok(Some(*which));
         }
     }
-    Ok(true)
+    Ok(None)
+}
+
+// The same from the tree that is copied.
+fn first_wrong<R: Threads + Sync>(
+    rt: &R,
+    alloc: Global,
+    on: On,
+) -> Result<Option<Which>, TreeError> {
+    let tree = tree_of(alloc, SOURCE)?;
+    first_wrong_from(rt, alloc, &tree, on)
 }
 
 #[test]
-fn each_call_that_fails_ends_the_run_with_its_cause(rt: HostRuntime) -> Result<(), test::Fail> {
+fn each_call_of_a_store_that_fails_ends_the_run_with_its_cause(
+    rt: HostRuntime,
+) -> Result<(), test::Fail> {
     let alloc = rt.alloc();
-    let tree = planted(alloc, &SOURCE)?;
-    assert_eq!(rt; each_kind(&rt, alloc, &tree, On::Source), Ok(true));
-    assert_eq!(rt; each_kind(&rt, alloc, &tree, On::Target), Ok(true));
-    assert_eq!(rt; each_kind(&rt, alloc, &tree, On::Desk), Ok(true));
+    assert_eq!(rt; first_wrong(&rt, alloc, On::Source), Ok(None));
+    assert_eq!(rt; first_wrong(&rt, alloc, On::Target), Ok(None));
+    Ok(())
+}
+
+#[test]
+fn each_call_of_a_worker_that_fails_is_made_good_or_fails_the_copy(
+    rt: HostRuntime,
+) -> Result<(), test::Fail> {
+    let alloc = rt.alloc();
+    assert_eq!(rt; first_wrong(&rt, alloc, On::Fork), Ok(None));
+    assert_eq!(rt; first_wrong(&rt, alloc, On::Desk), Ok(None));
     Ok(())
 }

@@ -1,16 +1,27 @@
-//! Worked examples of the top call over stores in memory, and of the definitions that its contract names.
+//! Worked examples of the top call over stores in memory.
 #![tactic(auto)]
 
 #[cfg(test)]
-mod copies;
+mod attributes;
 #[cfg(test)]
-mod entries;
+mod copies;
 #[cfg(test)]
 mod faults;
 #[cfg(test)]
+mod filters;
+#[cfg(test)]
 mod limits;
+#[cfg(test)]
+mod moves;
 #[cfg(test)]
 mod refusals;
 #[cfg(test)]
 mod runs;
-mod worked;
+#[cfg(test)]
+mod trees;
+#[cfg(test)]
+mod updates;
+#[cfg(test)]
+mod waves;
+#[cfg(test)]
+mod workers;

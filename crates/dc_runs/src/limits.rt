@@ -1,21 +1,18 @@
 //! Runs with paths at their limits.
 #![tactic(auto)]
 
-use crate::entries::{Entry, Is, make_dir, path};
 use crate::runs::{Ran, run, run_from};
+use crate::trees::{make_dir, path};
 use dc_attrs::TreeError;
-use dc_cli::{OptionError, Outcome};
+use dc_engine::Outcome;
+use dc_options::OptionError;
 use dc_path::OutOfMemory;
 use dc_tree::MemTree;
 use std::alloc::Global;
 use std::test::Fail;
 use std::thread::Threads;
 
-const SOURCE: [Entry; 3] = [
-    ("/s", Is::Dir),
-    ("/s/b", Is::Dir),
-    ("/s/b/c", Is::File("1")),
-];
+const SOURCE: &str = "/s /s/b /s/b/c=1";
 
 // A text so many times.
 fn repeated(alloc: Global, text: &str, times: usize) -> Result<String, OutOfMemory> {
@@ -36,12 +33,17 @@ fn is_bad_path(ran: &Ran) -> bool {
     )
 }
 
+// Whether a run of these words is refused for a word that is no path.
+fn is_refused_of<R: Threads + Sync>(rt: &R, alloc: Global, words: &str) -> Result<bool, TreeError> {
+    let ran = run(rt, alloc, SOURCE, "-", words, None)?;
+    Ok(is_bad_path(&ran))
+}
+
 // Whether a path as a source is no path; one that is a path is no source.
 fn is_refused<R: Threads + Sync>(rt: &R, alloc: Global, text: &str) -> Result<bool, TreeError> {
     let mut words = String::from_str(alloc, text)?;
     words.push_str(" /d")?;
-    let ran = run(rt, alloc, &SOURCE, &[], words.as_str(), None)?;
-    Ok(is_bad_path(&ran))
+    is_refused_of(rt, alloc, words.as_str())
 }
 
 // Whether so many names are too many.
@@ -57,27 +59,22 @@ fn is_long_name<R: Threads + Sync>(rt: &R, alloc: Global, bytes: usize) -> Resul
     is_refused(rt, alloc, text.as_str())
 }
 
-// Whether a path of 16 names, the last of so many bytes and the others of 255, is too long: its text has 3,841 bytes
-// more than the last name.
-fn is_long_path<R: Threads + Sync>(rt: &R, alloc: Global, last: usize) -> Result<bool, TreeError> {
+// The text of 15 names of 255 bytes.
+fn front(alloc: Global) -> Result<String, OutOfMemory> {
     let mut name = String::from_str(alloc, "/")?;
     name.push_str(repeated(alloc, "n", 255)?.as_str())?;
-    let mut text = repeated(alloc, name.as_str(), 15)?;
-    text.push_str("/")?;
-    text.push_str(repeated(alloc, "n", last)?.as_str())?;
-    is_refused(rt, alloc, text.as_str())
+    repeated(alloc, name.as_str(), 15)
 }
 
-// The same with a name of one byte besides.
-fn is_longer_path<R: Threads + Sync>(
+// Whether the path of 15 names of 255 bytes, this text and so many bytes is too long. The names alone have 3,840 bytes.
+fn is_long_path<R: Threads + Sync>(
     rt: &R,
     alloc: Global,
+    between: &str,
     last: usize,
 ) -> Result<bool, TreeError> {
-    let mut name = String::from_str(alloc, "/")?;
-    name.push_str(repeated(alloc, "n", 255)?.as_str())?;
-    let mut text = repeated(alloc, name.as_str(), 15)?;
-    text.push_str("/n/")?;
+    let mut text = front(alloc)?;
+    text.push_str(between)?;
     text.push_str(repeated(alloc, "n", last)?.as_str())?;
     is_refused(rt, alloc, text.as_str())
 }
@@ -95,9 +92,9 @@ fn a_path_is_a_word_up_to_its_limits(rt: HostRuntime) -> Result<(), Fail> {
 #[test]
 fn a_text_of_4096_bytes_is_a_path_and_one_more_is_none(rt: HostRuntime) -> Result<(), Fail> {
     let alloc = rt.alloc();
-    assert_eq!(rt; is_long_path(&rt, alloc, 255), Ok(false));
-    assert_eq!(rt; is_longer_path(&rt, alloc, 253), Ok(false));
-    assert_eq!(rt; is_longer_path(&rt, alloc, 254), Ok(true));
+    assert_eq!(rt; is_long_path(&rt, alloc, "/", 255), Ok(false));
+    assert_eq!(rt; is_long_path(&rt, alloc, "/n/", 253), Ok(false));
+    assert_eq!(rt; is_long_path(&rt, alloc, "/n/", 254), Ok(true));
     Ok(())
 }
 
@@ -118,12 +115,23 @@ fn is_too_long(
     }
 }
 
-// Whether a target of 255 names is too deep for what is listed.
-fn is_long_in_the_target<R: Threads + Sync>(rt: &R, alloc: Global) -> Result<bool, TreeError> {
+// The words of a run to a target of 255 names.
+fn deep_words(alloc: Global) -> Result<String, OutOfMemory> {
     let mut words = String::from_str(alloc, "/s ")?;
     words.push_str(repeated(alloc, "/x", 255)?.as_str())?;
-    let ran = run(rt, alloc, &SOURCE, &[], words.as_str(), None)?;
+    Ok(words)
+}
+
+// Whether a run of these words to a deep target is refused for a path in it.
+fn is_long_under<R: Threads + Sync>(rt: &R, alloc: Global, words: &str) -> Result<bool, TreeError> {
+    let ran = run(rt, alloc, SOURCE, "-", words, None)?;
     is_too_long(alloc, &ran, "/x/x", 256, "c")
+}
+
+// Whether a target of 255 names is too deep for what is listed.
+fn is_long_in_the_target<R: Threads + Sync>(rt: &R, alloc: Global) -> Result<bool, TreeError> {
+    let words = deep_words(alloc)?;
+    is_long_under(rt, alloc, words.as_str())
 }
 
 // Makes a directory, and a chain of so many directories under it; answers the last.
@@ -161,7 +169,7 @@ fn is_long_in_the_source<R: Threads + Sync>(
     words: &str,
 ) -> Result<bool, TreeError> {
     let tree = deep_tree(alloc)?;
-    let ran = run_from(rt, alloc, &tree, &[], words, None)?;
+    let ran = run_from(rt, alloc, &tree, "-", words, None)?;
     is_too_long(alloc, &ran, "/s", 256, "x")
 }
 

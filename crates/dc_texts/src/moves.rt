@@ -2,7 +2,7 @@
 #![tactic(auto)]
 
 use crate::reports::{repeated, report_of};
-use dc_path::{Path, PathError};
+use dc_path::{List, Name, OutOfMemory, Path, PathError};
 use dc_report::Move;
 use std::alloc::Global;
 use std::test::Fail;
@@ -118,6 +118,58 @@ fn where_a_path_goes_has_4096_bytes(rt: HostRuntime) -> Result<(), Fail> {
     Ok(())
 }
 
+// Whether an answer is the names of this path; none where the text is empty.
+fn spells(alloc: Global, answer: &Option<List<Name>>, text: &str) -> Result<bool, OutOfMemory> {
+    let Some(names) = answer else {
+        return Ok(text.is_empty());
+    };
+    let mut shown = String::new(alloc);
+    for name in names.as_slice() {
+        shown.push_str("/")?;
+        shown.push_str(name.as_str())?;
+    }
+    Ok(shown.as_str() == text)
+}
+
+// Whether the names of a path go to the one place, and what is created there stands at the other.
+fn as_names(alloc: Global, lines: &str, path: &str, to: &str, at: &str) -> Result<bool, PathError> {
+    let Ok(report) = report_of(alloc, lines) else {
+        return Ok(false);
+    };
+    let path = Path::read(alloc, path)?;
+    let moved = report.moved_names(alloc, path.names())?;
+    if !spells(alloc, &moved, to)? {
+        return Ok(false);
+    }
+    let placed = report.place_names(alloc, &path)?;
+    Ok(spells(alloc, &placed, at)?)
+}
+
+#[test]
+fn names_go_past_the_limits_of_a_path(rt: HostRuntime) -> Result<(), Fail> {
+    let lines = repeated(rt.alloc(), "R\t./a -> .", "/x", 254)?;
+    let far = repeated(rt.alloc(), "", "/x", 257)?;
+    assert_eq!(rt;
+        as_names(
+            rt.alloc(),
+            lines.as_str(),
+            "/a/x/x/x",
+            far.as_str(),
+            far.as_str()
+        ),
+        Ok(true)
+    );
+    assert_eq!(rt;
+        as_names(rt.alloc(), CROSSED, "/a/y", "", "/b/x/y"),
+        Ok(true)
+    );
+    assert_eq!(rt;
+        as_names(rt.alloc(), CROSSED, "/ab", "/ab", "/ab"),
+        Ok(true)
+    );
+    Ok(())
+}
+
 // Adds a path.
 fn add_path(alloc: Global, path: &Path, shown: &mut String) -> Result<(), PathError> {
     shown.push_str(path.text(alloc)?.as_str())?;
@@ -161,6 +213,26 @@ fn has_moves(alloc: Global, base: &str, lines: &str, moves: &str) -> Result<bool
     let base = Path::read(alloc, base)?;
     let steps = report.moves(alloc, &base)?;
     are_shown(alloc, steps.as_slice(), moves)
+}
+
+// Whether the report of these lines has these moves below the root.
+fn has_root_moves(alloc: Global, lines: &str, moves: &str) -> Result<bool, PathError> {
+    let Ok(report) = report_of(alloc, lines) else {
+        return Ok(false);
+    };
+    let steps = report.root_moves(alloc)?;
+    are_shown(alloc, steps.as_slice(), moves)
+}
+
+#[test]
+fn moves_are_told_without_a_base(rt: HostRuntime) -> Result<(), Fail> {
+    let moves = " +/.distcp.stage /a>/.distcp.stage/0 /.distcp.stage/0>/b -/.distcp.stage";
+    assert_eq!(rt;
+        has_root_moves(rt.alloc(), "R\t./a -> ./b\n", moves),
+        Ok(true)
+    );
+    assert_eq!(rt; has_root_moves(rt.alloc(), "+\t./a\n", ""), Ok(true));
+    Ok(())
 }
 
 #[test]

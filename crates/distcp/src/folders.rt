@@ -5,15 +5,17 @@ ghost use Rattle.std.specs.Prelude.{◌≡◌, ◌⊎◌, map, string_bytes, IfO
 ghost use Rattle.std.specs.Fn.{FnOnceReturnsAt};
 ghost use Rattle.dc_fs.specs.Causes.{Rose};
 ghost use Rattle.dc_fs.specs.Views.{view};
-ghost use Rattle.dc_cli.specs.Effects.{none_counted};
-ghost use Rattle.dc_cli.specs.Output.{lines};
-ghost use Rattle.dc_cli.specs.declared.outcome.Outcome.TheVariants as Outcome;
+ghost use Rattle.dc_engine.specs.declared.outcome.Outcome.TheVariants as Outcome;
+ghost use Rattle.dc_engine.specs.declared.outcome.TheConstants.Counts.{NONE};
+ghost use Rattle.dc_output.specs.Output.{lines};
 ghost use Rattle.distcp.specs.Ends.{Copies, Prints, Runs, Says, output, unopened};
 
 use crate::say::{NO_MEMORY, UNOPENED, say, say_of};
-use dc_cli::{distcp, print_no_memory, status};
+use dc_cli::distcp;
+use dc_filter::RegexPatterns;
 use dc_fs::{Sink, Source, Target};
 use dc_local::LocalError;
+use dc_output::{print_no_memory, status};
 use dc_path::{List, OutOfMemory, Text};
 use itoa::Buffer;
 use std::alloc::Global;
@@ -70,16 +72,17 @@ fn run_texts<R: Threads + Sync, S: Source, T: Target, O: Sink>(
     target: &mut T,
     out: &mut O,
 ) -> u8
-    ensures { Runs words.now result (view S.Store source.old) (view T.Store target.old) (view T.Store target.new) (output O.Sink out.old) (output O.Sink out.new) }
+    ensures { Runs words.now result (view S.Store source.old) (view S.Store source.new) (view T.Store target.old) (view T.Store target.new) (output O.Sink out.old) (output O.Sink out.new) }
 {
-    let ran = distcp(rt, alloc, words, source, target, out);
+    let mut pats = RegexPatterns::new(None);
+    let ran = distcp(rt, alloc, words, source, target, &mut pats, out);
     status(&ran)
 }
 
 // Ends a run for which there is no memory before it begins, and answers the exit status.
 fn end_without_memory<O: Sink>(out: &mut O) -> u8
     ensures status { result ≡ 24 }
-    ensures printed { Prints (lines Outcome.Memory none_counted) (output O.Sink out.old) (output O.Sink out.new) ⊎ Rose (O.faults out.old) (O.faults out.new) }
+    ensures printed { Prints (lines Outcome.Memory NONE) (output O.Sink out.old) (output O.Sink out.new) ⊎ Rose (O.faults out.old) (O.faults out.new) }
 {
     let answer = print_no_memory(out);
     status(&answer)
@@ -95,7 +98,7 @@ pub fn run_stores<R: Threads + Sync, S: Source, T: Target, O: Sink>(
     target: &mut T,
     out: &mut O,
 ) -> u8
-    ensures { Runs (map string_bytes words.now) result (view S.Store source.old) (view T.Store target.old) (view T.Store target.new) (output O.Sink out.old) (output O.Sink out.new) }
+    ensures { Runs (map string_bytes words.now) result (view S.Store source.old) (view S.Store source.new) (view T.Store target.old) (view T.Store target.new) (output O.Sink out.old) (output O.Sink out.new) }
 {
     match texts(alloc, words) {
         Ok(texts) => run_texts(rt, alloc, texts.as_slice(), source, target, out),

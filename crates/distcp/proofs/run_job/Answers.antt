@@ -1,4 +1,4 @@
-use Rattle.std.proofs.Common.{◌≡◌, ℕ, List, string_bytes}
+use Rattle.std.proofs.Common.{ℕ, List, string_bytes}
 use Rattle.std.specs.Fn.{FnOnceReturnsAt}
 use Rattle.distcp.specs.Ends.{Copies, output}
 use Rattle.distcp.proofs.Ends.{listed_words, of_words}

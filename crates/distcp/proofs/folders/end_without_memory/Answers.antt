@@ -1,6 +1,6 @@
 use Rattle.std.proofs.Common.{◌∙◌, ap}
-use Rattle.dc_cli.specs.Output.{status_of}
-use Rattle.dc_cli.specs.declared.outcome.Outcome.{Outcome}
+use Rattle.dc_output.specs.Output.{status_of}
+use Rattle.dc_engine.specs.declared.outcome.Outcome.{Outcome}
 use Rattle.distcp.proofs.Ends.{memory_status}
 use Rattle.distcp.proofs.folders.end_without_memory.Goals as goal
 

@@ -1,0 +1,4 @@
+-- The modules of the definitions.
+pub mod Plain
+pub mod Left
+pub mod Laws

@@ -1,3 +1,0 @@
-pub mod WorkedProofs
-pub mod WordProofs
-pub mod TreeProofs
