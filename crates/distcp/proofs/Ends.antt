@@ -70,6 +70,7 @@ memory_run words source target before now printed told rose = record {
   counts = NONE;
   printed = printed;
   allowed = memory_allowed words;
+  unasked = λ error h. refl;
   committed = λ h. cc;
   stopped = λ h. stops_at_once source target;
   keeps = keeps_all source target;

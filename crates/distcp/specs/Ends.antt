@@ -93,12 +93,14 @@ pub record Keeps (source source_now target target_now : View) : Type 0 where
   pub later : target.faults ≤ target_now.faults
   pub calm : steady_at target_now.steady target_now.faults ≡ steady_at target.steady target.faults
 
--- a run over two stores: its outcome, which its words allow, decides what is printed and the exit status, and what counts show
+-- a run over two stores: its outcome, which its words allow, decides what is printed and the exit status, and what counts show. Words
+-- that are refused leave the target as it was.
 pub record Runs (words : List (List ℕ)) (exit : ℕ) (source source_now target target_now : View) (before now : Output) : Type 0 where
   pub ended : Outcome
   pub counts : Counts
   pub printed : Bool
   pub allowed : Allows words ended
+  pub unasked : (error : OptionError) → options words ≡ Err error → target_now ≡ target
   pub committed : commits ended ≡ true → Commits words ended counts source source_now target target_now
   pub stopped : commits ended ≡ false → Stops ended counts source source_now target target_now
   pub keeps : Keeps source source_now target target_now

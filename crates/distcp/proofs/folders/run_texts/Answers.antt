@@ -9,6 +9,7 @@ returns g c = record {
   counts = c.distcp-ran.result.counts;
   printed = c.distcp-ran.result.printed;
   allowed = record { words = c.distcp-ran.ensures.words; due = c.distcp-ran.ensures.due; filtered = c.distcp-ran.ensures.filtered };
+  unasked = c.distcp-ran.ensures.unasked;
   committed = λ h. record {
     copied = c.distcp-ran.ensures.copied h;
     gained = c.distcp-ran.ensures.gained h;
