@@ -112,7 +112,7 @@ are_short R t n h = (told_entry [] R (Renamed n.old n.new) t (place_renamed R n 
 carries_length : (R : List Entry) → length (carries_of R) ≤ length R
 carries_length R = let a = sort_length old_lt (filter_map carry_of R) in let b = carried_length R in omega (arith, a, b)
 
-news_length : (R : List Entry) → length (plan R).news ≤ length R
+pub news_length : (R : List Entry) → length (plan R).news ≤ length R
 news_length R =
     let a = sort_length new_gt (items_of (carries_of R)) in
     let b = items_length (carries_of R) in

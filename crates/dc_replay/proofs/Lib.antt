@@ -23,3 +23,4 @@ pub mod TrueEntries
 pub mod TrueReport
 pub mod Where
 pub mod WordLaws
+pub mod SourceMaps

@@ -42,7 +42,7 @@ module _ (n : Place) (d : Names) (x : List ℕ) (new : n.new ≡ d ++ x ∷ []) 
   source_more Here = refl
   source_more (From m r) = sym (append_assoc m.old r (x ∷ []))
 
-  sources : (ns : List Place) → source (others n ns) (d ++ x ∷ []) ≡ source ns d ++ x ∷ []
+  pub sources : (ns : List Place) → source (others n ns) (d ++ x ∷ []) ≡ source ns d ++ x ∷ []
   sources ns = ap (source_as (d ++ x ∷ [])) (arrives_so ns) ∙ source_more (arrival ns d)
 
 pub looks_share_front : LooksShareFront

@@ -12,7 +12,7 @@ use Rattle.dc_path.specs.Paths.{Names, path_cmp}
 use Rattle.dc_path.proofs.OrderLemmas.{path_lt-trans}
 use Rattle.dc_report.specs.Apart.{IsReport}
 use Rattle.dc_report.specs.Carrying.{Carry, Has, Place, add_item, carries_of, carry_of, insert_by, items_of, new_gt, old_lt, sort_by}
-use Rattle.dc_report.specs.Landings.{NewsDiffer, ascending, landed, landings_of}
+use Rattle.dc_report.specs.Landings.{NewsDiffer, ascending, label_in, landed, landings_of, old_in, sources_of}
 use Rattle.dc_report.specs.declared.entries.Entry.{Entry}
 use Rattle.dc_report.specs.declared.entries.Entry.TheVariants.{Created, Deleted, Modified, Renamed}
 use Rattle.dc_report.proofs.HasLemmas.{has_either}
@@ -25,47 +25,47 @@ paths_total = lists_total nat_list_cmp_total
 
 -- ---- an entry more in a map
 -- behind all
-insert_last : (es : List (Names × ℕ)) (k : Names) (v : ℕ) → ((e : Names × ℕ) → Has es e → path_lt e.0 k ≡ true) → insert_entry path_cmp es k v ≡ es ++ (k, v) ∷ []
+insert_last : {V : Type 0} (es : List (Names × V)) (k : Names) (v : V) → ((e : Names × V) → Has es e → path_lt e.0 k ≡ true) → insert_entry path_cmp es k v ≡ es ++ (k, v) ∷ []
 insert_last [] k v h = refl
-insert_last (e ∷ es) k v h = rw (cmp_greater k e.0 (h e (inl refl))) (ap (λ (xs : List (Names × ℕ)). e ∷ xs) (insert_last es k v (λ d i. h d (inr i))))
+insert_last (e ∷ es) k v h = rw (cmp_greater k e.0 (h e (inl refl))) (ap (λ xs. e ∷ xs) (insert_last es k v (λ d i. h d (inr i))))
 
 -- before the last
-insert_at : (o : Ordering) (a b c d : List (Names × ℕ)) (e : Names × ℕ) → c ≡ d ++ e ∷ [] → match_ordering o (a ++ e ∷ []) (b ++ e ∷ []) c ≡ match_ordering o a b d ++ e ∷ []
+insert_at : {V : Type 0} (o : Ordering) (a b c d : List (Names × V)) (e : Names × V) → c ≡ d ++ e ∷ [] → match_ordering o (a ++ e ∷ []) (b ++ e ∷ []) c ≡ match_ordering o a b d ++ e ∷ []
 insert_at Less a b c d e h = refl
 insert_at Equal a b c d e h = refl
 insert_at Greater a b c d e h = h
 
-insert_before : (es : List (Names × ℕ)) (e : Names × ℕ) (k : Names) (v : ℕ) → path_lt k e.0 ≡ true → insert_entry path_cmp (es ++ e ∷ []) k v ≡ insert_entry path_cmp es k v ++ e ∷ []
+insert_before : {V : Type 0} (es : List (Names × V)) (e : Names × V) (k : Names) (v : V) → path_lt k e.0 ≡ true → insert_entry path_cmp (es ++ e ∷ []) k v ≡ insert_entry path_cmp es k v ++ e ∷ []
 insert_before [] e k v h = rw (cmp_less k e.0 h) refl
 insert_before (d ∷ es) e k v h =
     insert_at (path_cmp k d.0) ((k, v) ∷ d ∷ es) ((d.0, v) ∷ es) (d ∷ insert_entry path_cmp (es ++ e ∷ []) k v) (d ∷ insert_entry path_cmp es k v) e
-    (ap (λ (xs : List (Names × ℕ)). d ∷ xs) (insert_before es e k v h))
+    (ap (λ xs. d ∷ xs) (insert_before es e k v h))
 
-has_ascending : (ns : List Place) (e : Names × ℕ) → Has (ascending ns) e → (n : Place) × Has ns n × (e.0 ≡ n.new)
-has_ascending [] e h = absurd h
-has_ascending (n ∷ ns) e h =
-    ⊎_elim (λ k. let i = has_ascending ns e k in (i.0, inr i.1, i.2))
-    (λ k. ⊎_elim (λ f. (n, inl refl, ap (λ (d : Names × ℕ). d.0) f)) (λ f. absurd f) k)
-    (has_either (ascending ns) ((n.new, n.label) ∷ []) e h)
+pub has_ascending : {V : Type 0} (f : Place → V) (ns : List Place) (e : Names × V) → Has (ascending f ns) e → (n : Place) × Has ns n × (e.0 ≡ n.new)
+has_ascending f [] e h = absurd h
+has_ascending {V} f (n ∷ ns) e h =
+    ⊎_elim (λ k. let i = has_ascending f ns e k in (i.0, inr i.1, i.2))
+    (λ k. ⊎_elim (λ g. (n, inl refl, ap (λ (d : Names × V). d.0) g)) (λ g. absurd g) k)
+    (has_either (ascending f ns) ((n.new, f n) ∷ []) e h)
 
 -- an item takes its place among the new paths
-pub insert_ascending : (n : Place) (ns : List Place) → IsSorted new_gt ns → ((m : Place) → Has ns m → (new_gt n m ≡ true) ⊎ (new_gt m n ≡ true)) → insert_entry path_cmp (ascending ns) n.new n.label ≡ ascending (insert_by new_gt n ns)
-insert_ascending n [] s a = refl
-insert_ascending n (m ∷ ns) s a = ⊎_elim last (before (insert_ascending n ns s.1 (λ k i. a k (inr i)))) (a m (inl refl))
+pub insert_ascending : {V : Type 0} (f : Place → V) (n : Place) (ns : List Place) → IsSorted new_gt ns → ((m : Place) → Has ns m → (new_gt n m ≡ true) ⊎ (new_gt m n ≡ true)) → insert_entry path_cmp (ascending f ns) n.new (f n) ≡ ascending f (insert_by new_gt n ns)
+insert_ascending f n [] s a = refl
+insert_ascending {V} f n (m ∷ ns) s a = ⊎_elim last (before (insert_ascending f n ns s.1 (λ k i. a k (inr i)))) (a m (inl refl))
   where
-    last : path_lt m.new n.new ≡ true → insert_entry path_cmp (ascending (m ∷ ns)) n.new n.label ≡ ascending (cond (path_lt m.new n.new) (n ∷ m ∷ ns) (m ∷ insert_by new_gt n ns))
+    last : path_lt m.new n.new ≡ true → insert_entry path_cmp (ascending f (m ∷ ns)) n.new (f n) ≡ ascending f (cond (path_lt m.new n.new) (n ∷ m ∷ ns) (m ∷ insert_by new_gt n ns))
     last h =
-        rw h (insert_last (ascending (m ∷ ns)) n.new n.label (λ e k.
-        let i = has_ascending (m ∷ ns) e k in
+        rw h (insert_last (ascending f (m ∷ ns)) n.new (f n) (λ e k.
+        let i = has_ascending f (m ∷ ns) e k in
         let below : path_lt i.0.new n.new ≡ true =
-        ⊎_elim (λ f. subst (λ (p : Place). path_lt p.new n.new ≡ true) (sym f) h) (λ f. path_lt-trans i.0.new m.new n.new (s.0 i.0 f) h) i.1 in
+        ⊎_elim (λ g. subst (λ (p : Place). path_lt p.new n.new ≡ true) (sym g) h) (λ g. path_lt-trans i.0.new m.new n.new (s.0 i.0 g) h) i.1 in
         subst (λ (p : Names). path_lt p n.new ≡ true) (sym i.2) below))
 
-    before : insert_entry path_cmp (ascending ns) n.new n.label ≡ ascending (insert_by new_gt n ns) → path_lt n.new m.new ≡ true → insert_entry path_cmp (ascending (m ∷ ns)) n.new n.label ≡ ascending (cond (path_lt m.new n.new) (n ∷ m ∷ ns) (m ∷ insert_by new_gt n ns))
+    before : insert_entry path_cmp (ascending f ns) n.new (f n) ≡ ascending f (insert_by new_gt n ns) → path_lt n.new m.new ≡ true → insert_entry path_cmp (ascending f (m ∷ ns)) n.new (f n) ≡ ascending f (cond (path_lt m.new n.new) (n ∷ m ∷ ns) (m ∷ insert_by new_gt n ns))
     before ih h =
         rw (path_lt-back n.new m.new h)
-        (insert_before (ascending ns) (m.new, m.label) n.new n.label h
-        ∙ ap (λ (es : List (Names × ℕ)). es ++ (m.new, m.label) ∷ []) ih)
+        (insert_before (ascending f ns) (m.new, f m) n.new (f n) h
+        ∙ ap (λ (es : List (Names × V)). es ++ (m.new, f m) ∷ []) ih)
 
 -- ---- the items of carries with different new paths
 item_added : (o : Option Names) (old : Names) (l : ℕ) (ns : List Place) (n : Place) → Has (add_item o old l ns) n → (o ≡ Some n.new) ⊎ Has ns n
@@ -95,15 +95,21 @@ items_apart (c ∷ cs) d = items_apart_at c cs c.new refl d (items_apart cs d.1)
 pub items_sorted : (cs : List Carry) → NewsDiffer cs → IsSorted new_gt (sort_by new_gt (items_of cs))
 items_sorted cs d = sort_sorted new_gt (items_of cs) (λ n m k h i. path_lt-trans k.new m.new n.new i h) (items_apart cs d)
 
-landed_at : (c : Carry) (cs : List Carry) (o : Option Names) → c.new ≡ o → NewsDiffer (c ∷ cs) → landed o (length cs) (landings_of cs) ≡ ascending (sort_by new_gt (add_item o c.old (length cs) (items_of cs)))
-landed_at c cs None e d = refl
-landed_at c cs (Some b) e d =
-    insert_ascending (record { new = b; old = c.old; label = length cs }) (sort_by new_gt (items_of cs)) (items_sorted cs d.1)
+landed_at : {V : Type 0} (f : Place → V) (v : V) (c : Carry) (cs : List Carry) (o : Option Names)
+    → ((new : Names) → f (record { new = new; old = c.old; label = length cs }) ≡ v) → c.new ≡ o → NewsDiffer (c ∷ cs)
+    → landed o v (ascending f (sort_by new_gt (items_of cs))) ≡ ascending f (sort_by new_gt (add_item o c.old (length cs) (items_of cs)))
+landed_at f v c cs None w e d = refl
+landed_at f v c cs (Some b) w e d =
+    ap (insert_entry path_cmp (ascending f (sort_by new_gt (items_of cs))) b) (sym (w b))
+    ∙ insert_ascending f (record { new = b; old = c.old; label = length cs }) (sort_by new_gt (items_of cs)) (items_sorted cs d.1)
     (λ m h. other_new c cs b d e m (sort_has new_gt (items_of cs) m h))
 
 -- a carry more
 pub landed_more : (c : Carry) (cs : List Carry) → NewsDiffer (c ∷ cs) → landed c.new (length cs) (landings_of cs) ≡ landings_of (c ∷ cs)
-landed_more c cs d = landed_at c cs c.new refl d
+landed_more c cs d = landed_at label_in (length cs) c cs c.new (λ new. refl) refl d
+
+pub sourced_more : (c : Carry) (cs : List Carry) → NewsDiffer (c ∷ cs) → landed c.new (Some c.old) (sources_of cs) ≡ sources_of (c ∷ cs)
+sourced_more c cs d = landed_at old_in (Some c.old) c cs c.new (λ new. refl) refl d
 
 -- the carries from one on
 pub differ_behind : (cs ds : List Carry) → NewsDiffer (cs ++ ds) → NewsDiffer ds

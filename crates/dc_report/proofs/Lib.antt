@@ -26,3 +26,4 @@ pub mod MovesOf
 pub mod PlaceSets
 pub mod LimitLemmas
 pub mod FittingLemmas
+pub mod SourceLemmas

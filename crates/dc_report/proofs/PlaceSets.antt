@@ -9,7 +9,6 @@ use Rattle.dc_path.specs.declared.path.PathError.{PathError}
 use Rattle.dc_path.proofs.PathLemmas.{same_path-true, same_path-flip}
 use Rattle.dc_report.specs.Carrying.{limited}
 use Rattle.dc_report.specs.Landings.{is_at}
-use Rattle.dc_report.specs.declared.entries.Entry.{Entry}
 use Rattle.dc_report.proofs.KnownLemmas.{entered}
 use Rattle.dc_path.proofs.LimitLemmas.{path_within, within_is, within_same}
 use Rattle.dc_report.proofs.Lists.{take_get}
@@ -47,8 +46,8 @@ place_added old found q new o e f = rw f (e ∙ entered found q old ∙ ap (λ (
 pub place_outside : (old : Bool) (q : Names) (o : Option Names) (e : PathError) → limited o ≡ Err e → IsPath q → old ≡ (old || is_at o q)
 place_outside old q o e h is = or_false old (is_at o q) (limited_other o q e h is)
 
--- ---- an entry more
-filter_one : (f : Entry → Option Names) (e : Entry) (o : Option Names) (q : Names) → f e ≡ o → list_any (λ c. same_path c q) (filter_map f (e ∷ [])) ≡ is_at o q
+-- ---- an item more
+filter_one : {X : Type 0} (f : X → Option Names) (e : X) (o : Option Names) (q : Names) → f e ≡ o → list_any (λ c. same_path c q) (filter_map f (e ∷ [])) ≡ is_at o q
 filter_one f e None q h = rw h refl
 filter_one f e (Some p) q h = rw h (or_none (same_path p q))
   where
@@ -56,18 +55,18 @@ filter_one f e (Some p) q h = rw h (or_none (same_path p q))
     or_none true = refl
     or_none false = refl
 
-filter_more_at : (f : Entry → Option Names) (e : Entry) (es ds : List Entry) (o : Option Names) → f e ≡ o → filter_map f (es ++ ds) ≡ filter_map f es ++ filter_map f ds → filter_map f ((e ∷ es) ++ ds) ≡ filter_map f (e ∷ es) ++ filter_map f ds
+filter_more_at : {X : Type 0} (f : X → Option Names) (e : X) (es ds : List X) (o : Option Names) → f e ≡ o → filter_map f (es ++ ds) ≡ filter_map f es ++ filter_map f ds → filter_map f ((e ∷ es) ++ ds) ≡ filter_map f (e ∷ es) ++ filter_map f ds
 filter_more_at f e es ds None h ih = rw h ih
 filter_more_at f e es ds (Some p) h ih = rw h (ap (λ (ps : List Names). p ∷ ps) ih)
 
-filter_more : (f : Entry → Option Names) (es ds : List Entry) → filter_map f (es ++ ds) ≡ filter_map f es ++ filter_map f ds
+filter_more : {X : Type 0} (f : X → Option Names) (es ds : List X) → filter_map f (es ++ ds) ≡ filter_map f es ++ filter_map f ds
 filter_more f [] ds = refl
 filter_more f (e ∷ es) ds = filter_more_at f e es ds (f e) refl (filter_more f es ds)
 
-pub places_more : (f : Entry → Option Names) (es : List Entry) (i : ℕ) (e : Entry) (q : Names) (old new : Bool) → slice_get es i ≡ Some e
+pub places_more : {X : Type 0} (f : X → Option Names) (es : List X) (i : ℕ) (e : X) (q : Names) (old new : Bool) → slice_get es i ≡ Some e
     → old ≡ list_any (λ c. same_path c q) (filter_map f (take i es)) → new ≡ (old || is_at (f e) q) → new ≡ list_any (λ c. same_path c q) (filter_map f (take (i + 1) es))
 places_more f es i e q old new g h k =
     k ∙ ap (λ (b : Bool). b || is_at (f e) q) h ∙ ap (λ (b : Bool). list_any (λ c. same_path c q) (filter_map f (take i es)) || b) (sym (filter_one f e (f e) q refl))
     ∙ sym (list_any-append (λ c. same_path c q) (filter_map f (take i es)) (filter_map f (e ∷ [])))
     ∙ ap (list_any (λ c. same_path c q)) (sym (filter_more f (take i es) (e ∷ [])))
-    ∙ ap (λ (ds : List Entry). list_any (λ c. same_path c q) (filter_map f ds)) (sym (take_get es i e g))
+    ∙ ap (λ ds. list_any (λ c. same_path c q) (filter_map f ds)) (sym (take_get es i e g))

@@ -10,7 +10,7 @@ use Rattle.std.specs.Option.{is_some}
 use Rattle.std.specs.Ordering.{is_eq}
 use Rattle.dc_path.specs.Paths.{is_above, Names, IsPath, path_cmp, same_path}
 use Rattle.dc_report.specs.Carrying.{Has, Place, Plan, is_fresh, fresh_from, new_gt, verdict}
-use Rattle.dc_report.specs.Landings.{ascending, is_above_last, is_fresh_at, is_landing, landing_moves, landings_moves, made_along}
+use Rattle.dc_report.specs.Landings.{ascending, label_in, is_above_last, is_fresh_at, is_landing, landing_moves, landings_moves, made_along}
 use Rattle.dc_report.specs.Moves.{fronts, is_new_parent, label_of, parents, placing}
 use Rattle.dc_report.specs.declared.entries.Move.{Move}
 use Rattle.dc_report.specs.declared.entries.Move.TheVariants.{Make, Shift}
@@ -87,9 +87,9 @@ last_append : (last : Option Names) (es : List (Names × ℕ)) (e : Names × ℕ
 last_append last [] e = refl
 last_append last (d ∷ es) e = last_append (Some d.0) es e
 
-last_ascending : (ns : List Place) → last_of None (ascending ns) ≡ last_new ns
+last_ascending : (ns : List Place) → last_of None (ascending label_in ns) ≡ last_new ns
 last_ascending [] = refl
-last_ascending (n ∷ ns) = last_append None (ascending ns) (n.new, n.label)
+last_ascending (n ∷ ns) = last_append None (ascending label_in ns) (n.new, n.label)
 
 moves_append : (stage : List ℕ) (g : Ground) (last : Option Names) (es : List (Names × ℕ)) (e : Names × ℕ) → landings_moves stage g last (es ++ e ∷ []) ≡ landings_moves stage g last es ++ landing_moves stage g (last_of last es) e
 moves_append stage g last [] e = append-nil (landing_moves stage g last e)
@@ -103,11 +103,11 @@ landing_is stage g P n ns h s is =
     ap (λ (ps : List Names). map Make ps ++ Shift (stage ∷ label_of n.label ∷ []) n.new ∷ []) (made_is g P (last_new ns) ns n.new [] n.new false h (made_before n ns s) is refl refl)
 
 -- the walks to all new paths, in their order, are the moves out of the stage
-pub landings_are : (stage : List ℕ) (g : Ground) (P : Plan) (ns : List Place) → IsGround g P → IsSorted new_gt ns → ((n : Place) → Has ns n → IsPath n.new) → landings_moves stage g None (ascending ns) ≡ placing stage P ns
+pub landings_are : (stage : List ℕ) (g : Ground) (P : Plan) (ns : List Place) → IsGround g P → IsSorted new_gt ns → ((n : Place) → Has ns n → IsPath n.new) → landings_moves stage g None (ascending label_in ns) ≡ placing stage P ns
 landings_are stage g P [] h s is = refl
 landings_are stage g P (n ∷ ns) h s is =
-    moves_append stage g None (ascending ns) (n.new, n.label)
-    ∙ ap (λ (o : Option Names). landings_moves stage g None (ascending ns) ++ landing_moves stage g o (n.new, n.label)) (last_ascending ns)
+    moves_append stage g None (ascending label_in ns) (n.new, n.label)
+    ∙ ap (λ (o : Option Names). landings_moves stage g None (ascending label_in ns) ++ landing_moves stage g o (n.new, n.label)) (last_ascending ns)
     ∙ ap₂ (λ (ms ks : List Move). ms ++ ks) (landings_are stage g P ns h s.1 (λ m k. is m (inr k))) (landing_is stage g P n ns h s (is n (inl refl)))
 
 -- ---- a map of landings knows the new paths
@@ -125,12 +125,12 @@ or_last true false c d h k = rw (← h, ← k) refl
 or_last false true c d h k = rw (← h, ← k) refl
 or_last false false c d h k = rw (← h, ← k) refl
 
-news_any : (q : Names) (ns : List Place) → list_any (λ e. is_eq (path_cmp q e.0)) (ascending ns) ≡ list_any (λ n. same_path n.new q) ns
+news_any : (q : Names) (ns : List Place) → list_any (λ e. is_eq (path_cmp q e.0)) (ascending label_in ns) ≡ list_any (λ n. same_path n.new q) ns
 news_any q [] = refl
 news_any q (n ∷ ns) =
-    list_any-append (λ e. is_eq (path_cmp q e.0)) (ascending ns) ((n.new, n.label) ∷ [])
-    ∙ or_last (list_any (λ e. is_eq (path_cmp q e.0)) (ascending ns)) (is_eq (path_cmp q n.new)) (list_any (λ m. same_path m.new q) ns) (same_path n.new q)
+    list_any-append (λ e. is_eq (path_cmp q e.0)) (ascending label_in ns) ((n.new, n.label) ∷ [])
+    ∙ or_last (list_any (λ e. is_eq (path_cmp q e.0)) (ascending label_in ns)) (is_eq (path_cmp q n.new)) (list_any (λ m. same_path m.new q) ns) (same_path n.new q)
     (news_any q ns) (ties_same q n.new ∙ same_path-flip q n.new)
 
-pub landing_known : (g : Ground) (ns : List Place) (q : Names) → g.landings.entries ≡ ascending ns → is_landing g.landings q ≡ list_any (λ n. same_path n.new q) ns
+pub landing_known : (g : Ground) (ns : List Place) (q : Names) → g.landings.entries ≡ ascending label_in ns → is_landing g.landings q ≡ list_any (λ n. same_path n.new q) ns
 landing_known g ns q e = some_lookup (is_key (path_cmp q)) g.landings.entries ∙ ap (list_any (λ d. is_eq (path_cmp q d.0))) e ∙ news_any q ns

@@ -1,4 +1,4 @@
--- The map from old paths to new ones: words for private functions.
+-- The map from old paths to new ones, and names that may pass the limits of a path.
 use Rattle.std.specs.Prelude.{◌≡◌, ℕ, List, [], ◌∷◌, ◌++◌, map, Option, None, Some}
 use Rattle.std.specs.Borrow.{Bor}
 use Rattle.dc_path.specs.Paths.{IsWithin, Names}

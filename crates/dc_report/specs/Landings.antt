@@ -1,4 +1,4 @@
--- The renamed items by new path, and the walk down to a new path: words for private functions.
+-- The renamed items by new path, and the walk down to a new path.
 use Rattle.std.specs.Prelude.{ℕ, ◌≡◌, Bool, false, cond, not, ◌&&◌, ◌||◌, List, [], ◌∷◌, ◌++◌, map, Option, Some, None}
 use Rattle.std.specs.Option.{is_some}
 use Rattle.std.specs.BTreeMap.{BTreeMap, get, insert_entry}
@@ -10,24 +10,36 @@ use Rattle.dc_report.specs.declared.entries.Move.{Move}
 use Rattle.dc_report.specs.declared.entries.Move.TheVariants.{Make, Shift}
 use Rattle.dc_report.specs.declared.moves.Ground.{Ground}
 
--- new paths with numbers in the stage, the last first
-abbrev pub ascending : List Place → List (Names × ℕ)
-ascending [] = []
-ascending (n ∷ ns) = ascending ns ++ (n.new, n.label) ∷ []
+-- new paths with what f tells of their items, the last first
+abbrev pub ascending : {V : Type 0} → (Place → V) → List Place → List (Names × V)
+ascending f [] = []
+ascending f (n ∷ ns) = ascending f ns ++ (n.new, f n) ∷ []
+
+-- the number of an item in the stage
+abbrev pub label_in : Place → ℕ
+label_in n = n.label
+
+-- where an item stood
+abbrev pub old_in : Place → Option Names
+old_in n = Some n.old
 
 -- the new paths of renamed items, ascending, each with the number of the item in the stage
 abbrev pub landings_of : List Carry → List (Names × ℕ)
-landings_of cs = ascending (sort_by new_gt (items_of cs))
+landings_of cs = ascending label_in (sort_by new_gt (items_of cs))
+
+-- the same, each with the old path of the item
+abbrev pub sources_of : List Carry → List (Names × Option Names)
+sources_of cs = ascending old_in (sort_by new_gt (items_of cs))
 
 -- no two carries have one new path
 abbrev pub NewsDiffer : List Carry → Type 0
 NewsDiffer [] = Unit {0}
 NewsDiffer (c ∷ cs) = ((d : Carry) (b : Names) → Has cs d → c.new ≡ Some b → d.new ≡ Some b → ⊥) × NewsDiffer cs
 
--- the entries with a landing more, where there is a new path
-abbrev pub landed : Option Names → ℕ → List (Names × ℕ) → List (Names × ℕ)
-landed None label entries = entries
-landed (Some new) label entries = insert_entry path_cmp entries new label
+-- the entries with a new path more, where there is one
+abbrev pub landed : {V : Type 0} → Option Names → V → List (Names × V) → List (Names × V)
+landed None value entries = entries
+landed (Some new) value entries = insert_entry path_cmp entries new value
 
 -- what is created stands at this path
 abbrev pub is_at : Option Names → Names → Bool

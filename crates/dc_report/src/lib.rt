@@ -13,9 +13,12 @@ pub mod laws;
 mod lines;
 mod moves;
 mod report;
+mod sources;
 mod unlimited;
 mod writing;
 
+pub use carries::Carries;
 pub use entries::{Entry, Move};
 pub use report::{Report, ReportError};
+pub use unlimited::moved_names;
 pub use writing::{WriteReportError, write_entries};

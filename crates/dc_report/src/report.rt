@@ -8,8 +8,9 @@ ghost use Rattle.dc_report.specs.declared.report.ReportError.TheVariants.{Memory
 ghost use Rattle.dc_report.specs.declared.writing.WriteReportError.TheVariants.{Memory as Full};
 ghost use Rattle.dc_path.specs.declared.path.PathError.TheVariants.{Memory as Lacking};
 ghost use Rattle.dc_report.specs.Apart.{IsReport};
-ghost use Rattle.dc_report.specs.Carries.{carries_in};
+ghost use Rattle.dc_report.specs.Carries.{carries_in, OldsFit};
 ghost use Rattle.dc_report.specs.Carrying.{carries_of, limited, moved, place};
+ghost use Rattle.dc_report.specs.Landings.{sources_of};
 ghost use Rattle.dc_report.specs.Moves.{limited_moves, moves_of, root_moves, stage_name};
 ghost use Rattle.dc_report.specs.Told.{AreTold, HasNoName};
 ghost use Rattle.dc_report.specs.Writing.{written};
@@ -22,6 +23,7 @@ use crate::grammar::{is_heading, read_entry};
 use crate::known::Known;
 use crate::lines::without_end;
 use crate::moves::{report_moves, root_moves};
+use crate::sources::sources;
 use crate::unlimited::{moved_names, place_names};
 use crate::writing::{WriteReportError, write_entries};
 use crate::{Entry, Move};
@@ -215,6 +217,17 @@ impl Report {
         ensures { IfOk result (λ to. to ≡ place (carries_of self.now) created.now) }
     {
         place_names(&self.carries, alloc, created)
+    }
+
+    /// Each new path of a rename with its old path, as a map by which `moved_names` leads back: from a path of the later
+    /// snapshot to the one path that may have gone there. `OutOfMemory` is the one error.
+    pub fn sources(&self, alloc: Global) -> Result<Carries, OutOfMemory>
+        ensures sources { IfOk result (λ sources. sources.entries ≡ sources_of (carries_of self.now)) }
+        ensures fit { IfOk result (λ sources. OldsFit (carries_in sources.entries)) }
+    {
+        // That the map is in the order of its keys is a clause of its length.
+        let _ordered = self.carries.len();
+        sources(alloc, &self.carries)
     }
 
     /// The moves that replay the report on a tree whose root is the directory of the report: those of `moves`, with the root

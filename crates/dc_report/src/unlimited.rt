@@ -72,7 +72,8 @@ fn follow_names(
     Ok(Some(to))
 }
 
-/// Where the path of these names goes, as names; `None` where it goes nowhere. `OutOfMemory` is the one error.
+/// Where the path of these names goes by a map from old paths to new ones, as names; `None` where it goes nowhere. The paths of
+/// the map are within the limits of a path. `OutOfMemory` is the one error.
 pub fn moved_names(
     carries: &Carries,
     alloc: Global,

@@ -2,3 +2,8 @@
 pub mod ReadingLemmas
 pub mod NameLemmas
 pub mod ReplayLemmas
+pub mod LookLemmas
+pub mod OriginLemmas
+pub mod TestLemmas
+pub mod TestLoops
+pub mod TestParts

@@ -4,3 +4,4 @@ pub mod Steps
 pub mod Reading
 pub mod Beginning
 pub mod Replays
+pub mod Checks

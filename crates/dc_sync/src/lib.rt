@@ -6,12 +6,18 @@
 #![tactic(auto)]
 
 mod beginning;
+mod checking;
 mod errors;
+mod listing;
+mod looks;
 mod reading;
 mod replaying;
 mod steps;
+mod tests;
 
 pub use beginning::at_begin;
+pub use checking::check;
 pub use errors::SyncError;
+pub use listing::test_listing;
 pub use reading::read_report;
 pub use replaying::{Replayed, replay};
